@@ -1,0 +1,23 @@
+-- Each callee's equation in turn.
+-- Assumes nothing.
+use Rattle.floor.specs.Refusal.{recordOk}
+use borrow.Author.Needs.{needs}
+use Rattle.floor.proofs.refusal.ranged.Statement.{statement}
+use Rattle.floor.proofs.refusal.ranged.Tie as tie
+
+pub ranged-spec : {M : Type 1} → statement M
+unfolding recordOk
+ranged-spec =
+    tie.close
+    (tie.spec
+    (λ c. search needs)
+    (λ c. search needs)
+    (λ c κs. search needs)
+    (λ c. search needs)
+    (λ c. search needs)
+    (λ c κs. search needs)
+    (λ c. search needs)
+    (λ c. search needs)
+    (λ c κs. search needs)
+    (λ c κs. search needs)
+    (λ c. cc))

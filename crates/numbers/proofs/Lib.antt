@@ -1,0 +1,6 @@
+pub mod Bounded
+pub mod Rounded
+pub mod Integers
+pub mod Tests
+pub mod Records
+pub mod Cases

@@ -1,0 +1,4 @@
+pub mod Rounding
+pub mod Least
+pub mod Tests
+pub mod Records

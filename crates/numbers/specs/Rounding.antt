@@ -1,0 +1,18 @@
+-- Rounding, over the divisor.
+-- Assumes nothing.
+use Prim.Native.Nat.{ℕ, _+_, _-_, _*_, _/_}
+use lib.IntN.{ℤ, pos, negsuc}
+
+-- n/d, rounded up
+abbrev pub up : ℕ → ℕ → ℕ
+up n d = (n + (d - 1)) / d
+
+-- k + floor((p − q)/d), the floor toward minus infinity
+abbrev pub plusFloor : ℕ → ℕ → ℕ → ℕ → ℕ
+plusFloor k p q d = (k * d + p - q) / d
+
+-- floor(z/d) of an integer z, toward minus infinity
+abbrev pub floorOf : ℤ → ℕ → ℤ
+floorOf (pos n) d = pos (n / d)
+floorOf (negsuc n) d = negsuc (n / d)
+

@@ -1,0 +1,15 @@
+-- `span_ok` answers as its definition: what each arm knows decides every test of the definition.
+-- Assumes nothing.
+use Rattle.numbers.proofs.Cases.{cases}
+use Rattle.records.specs.Ranges.{spanOk}
+use Rattle.records.proofs.ranges.span_ok.Statement.{statement}
+use Rattle.records.proofs.ranges.span_ok.Tie as tie
+
+pub span-ok-spec : {M : Type 1} → statement M
+unfolding spanOk
+span-ok-spec =
+    tie.close
+    (tie.spec
+    (λ c. search cases)
+    (λ c. search cases)
+    (λ c. search cases))
