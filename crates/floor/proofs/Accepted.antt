@@ -11,11 +11,11 @@ use native.Mathlib.Omega.{arith}
 use Rattle.numbers.proofs.Tests.{at, intro}
 use Rattle.records.proofs.Places.{counted-kind}
 use Rattle.floor.specs.declared.layout.Rule.the-variants.{Columns}
-use Rattle.floor.specs.declared.ways.Way.the-variants.{X, Y}
+use Rattle.plan.specs.declared.ways.Way.the-variants.{X, Y}
 use Rattle.floor.specs.declared.refusal.Check.{Check}
 use Rattle.floor.specs.declared.refusal.Check.the-variants.{Ranged}
 use Rattle.floor.specs.Layouts.{kept}
-use Rattle.floor.specs.Plan.{bays, many, start}
+use Rattle.plan.specs.Plan.{bays, many, start}
 use Rattle.floor.specs.Refusal.{unless, recordOk, kindOk, everyRecord, beamsOk, valuesRefusal, refusal}
 use Rattle.floor.specs.Passes.{Passes}
 

@@ -1,3 +1,5 @@
-pub mod Reading
 pub mod Chain
 pub mod Accepted
+pub mod Beams
+pub mod Meaning
+pub mod Fair

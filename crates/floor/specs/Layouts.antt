@@ -1,17 +1,17 @@
 -- What refusals 6 and 7 ask of the spans and lines of a direction, and the layout of the beams.
 -- Assumes nothing.
 use Prim.Native.Nat.{ℕ, _+_, _*_}
-use mathlib.Core.Bool.{Bool, true, false, cond, not, _&&_, _||_}
+use mathlib.Core.Bool.{Bool, true, false, cond, _&&_, _||_}
 use mathlib.Core.List.{List}
 use lib.Dec.{eqb, ltb, leb}
-use Rattle.numbers.specs.Tests.{all}
-use Rattle.floor.specs.declared.ways.Way.{Way}
-use Rattle.floor.specs.declared.ways.Way.the-variants.{X, Y}
+use Rattle.numbers.specs.Tests.{all, same}
+use Rattle.plan.specs.declared.ways.Way.{Way}
+use Rattle.plan.specs.declared.ways.Way.the-variants.{X, Y}
 use Rattle.floor.specs.declared.layout.Layout.{Layout}
 use Rattle.floor.specs.declared.layout.Layout.the-variants.{Everywhere, OuterOnly, Bare}
 use Rattle.floor.specs.declared.layout.Rule.{Rule}
 use Rattle.floor.specs.declared.layout.Rule.the-variants.{Columns, Beams, Depth}
-use Rattle.floor.specs.Plan.{bays, thickness, column, span, lastLine, beamWidth, beamDepth}
+use Rattle.plan.specs.Plan.{bays, thickness, column, span, lastLine, beamWidth, beamDepth}
 
 -- "Layouts allowed: beams on every line; on the four outer lines only; on none": which lines have a beam
 abbrev pub beamOn : Layout → Bool → Bool
@@ -22,9 +22,6 @@ beamOn Bare outer = false
 -- of lines 0 to last, the outer ones
 abbrev pub outerLine : ℕ → ℕ → Bool
 outerLine last l = eqb l 0 || eqb l last
-
-abbrev pub same : Bool → Bool → Bool
-same a b = cond a b (not b)
 
 -- line l, of lines 0 to last, has a beam of this width, 0 for none, exactly where the layout has one
 abbrev pub beamFits : Layout → ℕ → ℕ → ℕ → Bool

@@ -1,6 +1,5 @@
-pub mod Fields
-pub mod Ways
-pub mod Plan
 pub mod Layouts
 pub mod Refusal
 pub mod Passes
+pub mod Meaning
+pub mod Fair

@@ -8,12 +8,12 @@ use lib.ListN.{length}
 use Rattle.numbers.specs.Tests.{all}
 use Rattle.records.specs.Kinds.{total, unlistedZero}
 use Rattle.records.specs.Ranges.{sizesOk, valuesOk}
-use Rattle.floor.specs.declared.ways.Way.the-variants.{X, Y}
+use Rattle.plan.specs.declared.ways.Way.the-variants.{X, Y}
 use Rattle.floor.specs.declared.layout.Rule.the-variants.{Columns, Beams, Depth}
 use Rattle.floor.specs.declared.refusal.Check.{Check}
 use Rattle.floor.specs.declared.refusal.Check.the-variants.{Listed, Ranged}
-use Rattle.floor.specs.Fields.{kindAt, indexAt, partAt}
-use Rattle.floor.specs.Plan.{bays, many, start}
+use Rattle.plan.specs.Fields.{kindAt, indexAt, partAt}
+use Rattle.plan.specs.Plan.{bays, many, start}
 use Rattle.floor.specs.Layouts.{kept, layoutOf}
 
 -- refusal `number` unless the test passes; else what is tried after it

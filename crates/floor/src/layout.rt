@@ -4,10 +4,9 @@ ghost use Prim.Native.Nat.{_≤_, _*_};
 ghost use mathlib.Core.Bool.{_||_};
 ghost use lib.Dec.{eqb, ltb, leb};
 ghost use Rattle.floor.specs.declared.layout.Rule.the-variants.{Columns, Beams, Depth};
-ghost use Rattle.floor.specs.Layouts.{beamOn, outerLine, same, beamFits, keeps, asked, keptAlong, kept, layoutOf};
-use crate::plan;
-use crate::ways::Way;
-use numbers::both;
+ghost use Rattle.floor.specs.Layouts.{beamOn, outerLine, beamFits, keeps, asked, keptAlong, kept, layoutOf};
+use numbers::{both, same};
+use plan::ways::Way;
 
 // Beams on every line; on the four outer lines only; on none.
 pub enum Layout {
@@ -37,12 +36,6 @@ pub fn outer_line(last: u32, l: u32) -> bool
     ensures { λ r. ⌜ r ≡ outerLine last l ⌝ }
 {
     l == 0 || l == last
-}
-
-fn same(a: bool, b: bool) -> bool
-    ensures { λ r. ⌜ r ≡ same a b ⌝ }
-{
-    if a { b } else { !b }
 }
 
 fn beam_fits(layout: Layout, width: u32, last: u32, l: u32) -> bool

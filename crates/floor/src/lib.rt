@@ -1,6 +1,3 @@
-// The floor file (01, "The floor file" and "Refusal numbers"): what its bytes say, by direction, and refusals 1 to 7 and 9.
-pub mod fields;
+// What makes a floor file one (01, "The floor file" and "Refusal numbers"): refusals 1 to 7, and the layout of its beams.
 pub mod layout;
-pub mod plan;
 pub mod refusal;
-pub mod ways;

@@ -3,12 +3,11 @@ ghost use mathlib.Core.Path.{_≡_};
 ghost use Prim.Native.Nat.{_≤_};
 ghost use Rattle.floor.specs.declared.refusal.Check.the-variants.{Listed, Ranged};
 ghost use Rattle.floor.specs.Refusal.{lengthOk, headIs, firstOk, countOk, recordOk, kindOk, everyRecord, beamsOk, valuesRefusal, refusal};
-use crate::fields::{u16_at, u32_at};
 use crate::layout;
 use crate::layout::Rule;
-use crate::plan;
-use crate::ways::Way;
 use numbers::both;
+use plan::fields::{u16_at, u32_at};
+use plan::ways::Way;
 
 // What is looked at in every record before the next is tried.
 pub enum Check {

@@ -3,10 +3,11 @@
 --     none, more, found, done     the loop's four places: entry, one turn more, an early answer, its end
 --     at, intro                   a test of every number, taken apart and put together
 --     says-..                     the parts of a test: a law of meaning is one term of these
+--     by-test, fails              a test whose meaning is known, put to use
 -- Assumes nothing.
 use mathlib.Core.Bool.{Bool, true, false, not, cond, _||_, _&&_, false≢true}
-use mathlib.Core.Path.{_≡_, refl, sym, ap, subst, _∙_}
-use mathlib.Core.Logic.{_⊎_, inl, inr, ⊎-elim}
+use mathlib.Core.Path.{_≡_, refl, sym, subst, _∙_}
+use mathlib.Core.Logic.{_⊎_, _↔_, inl, inr, ⊎-elim}
 use Prim.Native.Nat.{ℕ, zero, suc, _+_, _<_, _≤_}
 use native.Mathlib.Nat.{not-suc-le-zero}
 use native.Mathlib.Numerals.{add-one}
@@ -14,7 +15,7 @@ use native.Mathlib.Decide.{decLt}
 use native.Mathlib.Omega.{arith}
 use lib.Dec.{eqb, ltb, leb}
 use borrow.Author.Tests.{not-true, ltb-true, leb-true, eqb-true, lt-ltb, le-leb, eq-eqb}
-use Rattle.numbers.specs.Tests.{joined, until, all, some, All, Some, Says}
+use Rattle.numbers.specs.Tests.{joined, until, all, some, All, Some, same, Says}
 
 -- ---- the loop
 
@@ -103,6 +104,31 @@ says-not {b} {P} s =
     fails : (b : Bool) → (b ≡ true → ⊥) → not b ≡ true
     fails true q = absurd (q refl)
     fails false q = refl
+
+pub says-and3 : {a b c : Bool} {P Q R : Type 0} → Says a P → Says b Q → Says c R → Says (a && (b && c)) (P × Q × R)
+says-and3 p q r = says-as (λ h. (h .0, h .1 .0, h .1 .1)) (λ h. (h .0, (h .1, h .2))) (says-and p (says-and q r))
+
+pub says-always : Says true Unit
+says-always = record { holds = λ e. tt; passes = λ u. refl }
+
+pub says-never : Says false ⊥
+says-never = record { holds = false≢true; passes = λ u. absurd u }
+
+-- two tests that agree say that either meaning holds where the other does
+pub says-same : {a b : Bool} {P Q : Type 0} → Says a P → Says b Q → Says (same a b) (P ↔ Q)
+says-same {a = true} p q =
+    record { holds = λ e. (λ h. q .holds e, λ h. p .holds refl); passes = λ h. q .passes (h .0 (p .holds refl)) }
+says-same {a = false} p q =
+    says-as (λ n. (λ h. absurd (false≢true (p .passes h)), λ h. absurd (n h))) (λ h k. false≢true (p .passes (h .1 k))) (says-not q)
+
+-- where the meaning does not hold the test is false
+pub fails : {b : Bool} {P : Type 0} → Says b P → (P → ⊥) → b ≡ false
+fails s q = not-true _ (says-not s .passes q)
+
+-- what is chosen by a test has G if either choice has, given what the test said
+pub by-test : {b : Bool} {P A : Type 0} {x y : A} (G : A → Type 0) → Says b P → (P → G x) → ((P → ⊥) → G y) → G (cond b x y)
+by-test {b = true} G s to else = to (s .holds refl)
+by-test {b = false} G s to else = else (λ p. false≢true (s .passes p))
 
 -- one more number: below n, or n itself
 below-suc : {n : ℕ} (P : ℕ → Type 0) → All n P → P n → All (suc n) P

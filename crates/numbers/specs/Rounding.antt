@@ -1,7 +1,12 @@
 -- Rounding, over the divisor.
 -- Assumes nothing.
-use Prim.Native.Nat.{ℕ, _+_, _-_, _*_, _/_}
+use Prim.Native.Nat.{ℕ, _+_, _-_, _*_, _/_, _≤_, _<_}
 use lib.IntN.{ℤ, pos, negsuc}
+
+-- q is n/d rounded down: its multiple of d is reached, and the next one is not
+pub record Down (n d q : ℕ) : Type 0 where
+  pub reached : q * d ≤ n
+  pub next : n < q * d + d
 
 -- n/d, rounded up
 abbrev pub up : ℕ → ℕ → ℕ

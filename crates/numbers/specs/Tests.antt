@@ -27,6 +27,10 @@ All n P = (k : ℕ) → k < n → P k
 abbrev pub Some : ℕ → (ℕ → Type 0) → Type 0
 Some n P = (k : ℕ) × (k < n) × P k
 
+-- two tests agree
+abbrev pub same : Bool → Bool → Bool
+same a b = cond a b (not b)
+
 -- a test says P: it passes exactly where P holds
 pub record Says (b : Bool) (P : Type 0) : Type 0 where
   pub holds : b ≡ true → P

@@ -2,6 +2,7 @@
 ghost use mathlib.Core.Path.{_≡_};
 ghost use mathlib.Core.Bool.{_&&_};
 ghost use Prim.Native.Nat.{min, max};
+ghost use Rattle.numbers.specs.Tests.{same};
 
 pub fn smaller(a: u64, b: u64) -> u64
     ensures { λ r. ⌜ r ≡ min a b ⌝ }
@@ -20,4 +21,10 @@ pub fn both(a: bool, b: bool) -> bool
     ensures { λ r. ⌜ r ≡ (a && b) ⌝ }
 {
     a && b
+}
+
+pub fn same(a: bool, b: bool) -> bool
+    ensures { λ r. ⌜ r ≡ same a b ⌝ }
+{
+    if a { b } else { !b }
 }

@@ -10,18 +10,14 @@ use mathlib.Core.Path.{_≡_, refl, sym}
 use native.Mathlib.Nat.{div-div-eq-div-mul}
 use native.Mathlib.Omega.{arith}
 use lib.Dec.{eqb}
-use borrow.Author.Tests.{not-true}
 use Rattle.numbers.specs.Tests.{Says}
-use Rattle.numbers.proofs.Tests.{says-le, says-eq, says-and, says-or, says-not, says-as}
+use Rattle.numbers.proofs.Tests.{says-le, says-eq, says-and, says-and3, says-or, says-as, says-always, says-never, fails}
 use Rattle.records.specs.Kinds.{byKind, unlistedZero, changeable}
 use Rattle.records.specs.Ranges.{within, sizesOk, materialsOk, loadsOk, columnOk, sidesOk, columnsOk, spanOk, beamOk, offsetOk, valuesOk}
 use Rattle.records.specs.Meaning.{In, Sizes, Materials, Loads, Column, Sides, Columns, Span, Beam, Offset, InRange, Zero, Changeable}
 use Rattle.records.proofs.ByKind.{changeable-test}
 
 -- ---- the forms of these tests
-
-says-and3 : {a b c : Bool} {P Q R : Type 0} → Says a P → Says b Q → Says c R → Says (a && (b && c)) (P × Q × R)
-says-and3 p q r = says-as (λ h. (h .0, h .1 .0, h .1 .1)) (λ h. (h .0, (h .1, h .2))) (says-and p (says-and q r))
 
 -- a choice between two ranges that no number is in both of
 says-either : (t : Bool) {a b : Bool} {T P Q : Type 0} → Says t T → Says a P → Says b Q → (Q → T → ⊥) → Says (cond t a b) ((T × P) ⊎ Q)
@@ -40,12 +36,6 @@ says-either false s p q apart =
 says-pick : (t : Bool) {a b : Bool} {P Q : Type 0} → Says a P → Says b Q → Says (cond t a b) (cond t P Q)
 says-pick true p q = p
 says-pick false p q = q
-
-says-always : Says true Unit
-says-always = record { holds = λ e. tt; passes = λ u. refl }
-
-says-never : Says false ⊥
-says-never = record { holds = false≢true; passes = λ u. absurd u }
 
 -- ---- each kind's values
 
@@ -76,7 +66,7 @@ says-sides s =
 
 -- the code's early ways out
 pub sides-out : (s : ℕ) → (Sides s → ⊥) → false ≡ sidesOk s
-sides-out s out = sym (not-true _ (says-not (says-sides s) .passes out))
+sides-out s out = sym (fails (says-sides s) out)
 
 pub says-columns : (cx cy sides : ℕ) → Says (columnsOk cx cy sides) (Columns cx cy sides)
 unfolding columnsOk

@@ -2,13 +2,12 @@
 -- Assumes nothing.
 use Prim.Native.Nat.{_≤_, _-_}
 use mathlib.Core.Bool.{true, false}
-use mathlib.Core.Path.{_≡_, sym, _∙_}
+use mathlib.Core.Path.{_≡_, sym}
 use borrow.Author.Needs.{needs}
 use borrow.Author.Tests.{not-true, not-false}
-use native.Mathlib.Omega.{arith}
 use Rattle.numbers.specs.Tests.{all}
 use Rattle.numbers.proofs.Tests.{none, more, found, done}
-use Rattle.floor.specs.Plan.{start, many}
+use Rattle.plan.specs.Plan.{start, many}
 use Rattle.floor.specs.Refusal.{kindOk, everyRecord}
 use Rattle.floor.proofs.refusal.every_record.Statement.{statement}
 use Rattle.floor.proofs.refusal.every_record.Tie as tie
