@@ -5,7 +5,8 @@ ghost use mathlib.Core.Bool.{_||_};
 ghost use lib.Dec.{eqb, ltb, leb};
 ghost use Rattle.floor.specs.declared.layout.Rule.the-variants.{Columns, Beams, Depth};
 ghost use Rattle.floor.specs.Layouts.{beamOn, outerLine, beamFits, keeps, asked, keptAlong, kept, layoutOf};
-use numbers::{both, same};
+use numbers::both;
+use numbers::same;
 use plan::ways::Way;
 
 // Beams on every line; on the four outer lines only; on none.

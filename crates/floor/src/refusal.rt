@@ -6,7 +6,8 @@ ghost use Rattle.floor.specs.Refusal.{lengthOk, headIs, firstOk, countOk
 use crate::layout;
 use crate::layout::Rule;
 use numbers::both;
-use plan::fields::{u16_at, u32_at};
+use plan::fields::u16_at;
+use plan::fields::u32_at;
 use plan::ways::Way;
 
 // What is looked at in every record before the next is tried.

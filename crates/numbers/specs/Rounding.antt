@@ -20,4 +20,3 @@ plusFloor k p q d = (k * d + p - q) / d
 abbrev pub floorOf : ℤ → ℕ → ℤ
 floorOf (pos n) d = pos (n / d)
 floorOf (negsuc n) d = negsuc (n / d)
-

@@ -6,8 +6,10 @@ ghost use mathlib.Core.Path.{_≡_};
 ghost use Prim.Native.Nat.{_≤_, _<_};
 ghost use Rattle.plan.specs.Plan.{few, bays, value, thickness, strength, grade, dead, live, column, side, span, lastLine, beamWidth, beamDepth, offset};
 use fields::u32_at;
-use records::kinds::{count_of, start_of};
-use ways::{End, Way};
+use records::kinds::count_of;
+use records::kinds::start_of;
+use ways::End;
+use ways::Way;
 
 fn few(n: u32) -> u32
     ensures { λ r. ⌜ (r ≡ few n) × (r ≤ 12) ⌝ }

@@ -1,0 +1,244 @@
+//! "The floor file" and, of "Refusal numbers, in the order tried", 1 to 7.
+
+use crate::layout;
+
+/// "Success is 0."
+pub const SUCCESS: u128 = 0;
+
+/// "Records of 16 bytes, no header"
+pub const RECORD_BYTES: usize = 16;
+
+/// "kind (2 bytes), index (2), then a, b, c (4 each, unsigned)"
+#[derive(Clone, Copy, Debug, PartialEq, Eq)]
+pub struct Record {
+    pub kind: u128,
+    pub index: u128,
+    pub a: u128,
+    pub b: u128,
+    pub c: u128,
+}
+
+/// "little-endian"
+fn number(bytes: &[u8]) -> u128 {
+    bytes
+        .iter()
+        .rev()
+        .fold(0, |higher, &byte| 256 * higher + u128::from(byte))
+}
+
+impl Record {
+    pub fn read(bytes: &[u8]) -> Record {
+        Record {
+            kind: number(&bytes[0..2]),
+            index: number(&bytes[2..4]),
+            a: number(&bytes[4..8]),
+            b: number(&bytes[8..12]),
+            c: number(&bytes[12..16]),
+        }
+    }
+}
+
+pub fn records(floor: &[u8]) -> Vec<Record> {
+    floor.chunks_exact(RECORD_BYTES).map(Record::read).collect()
+}
+
+/// Speaks of the floor's records of one kind only where refusal 4 does not apply.
+pub fn records_of_kind(floor: &[u8], kind: u128) -> Vec<Record> {
+    let mut found = records(floor);
+    found.retain(|record| record.kind == kind);
+    found
+}
+
+/// "bays nx 1..12, bays ny 1..12, slab t 90..500"
+#[derive(Clone, Copy, Debug, PartialEq, Eq)]
+pub struct Sizes {
+    pub nx: u128,
+    pub ny: u128,
+    pub t: u128,
+}
+
+pub fn sizes(floor: &[u8]) -> Sizes {
+    let first = records(floor)[0];
+    Sizes {
+        nx: first.a,
+        ny: first.b,
+        t: first.c,
+    }
+}
+
+/// The column "count" of the table of kinds.
+pub fn count(kind: u128, sizes: Sizes) -> u128 {
+    match kind {
+        1..=4 => 1,
+        5 => sizes.nx,
+        6 => sizes.ny,
+        7 => sizes.ny + 1,
+        8 => sizes.nx + 1,
+        9 => (sizes.nx + 1) * (sizes.ny + 1),
+        _ => 0,
+    }
+}
+
+/// "Exactly this order, indices rising from 0": kind and index of every record.
+pub fn order(sizes: Sizes) -> Vec<(u128, u128)> {
+    let mut order = Vec::new();
+    for kind in 1..=9 {
+        for index in 0..count(kind, sizes) {
+            order.push((kind, index));
+        }
+    }
+    order
+}
+
+/// "a field not listed is zero", by the column "a, b, c" of the table of kinds.
+pub fn unlisted_fields_are_zero(record: Record) -> bool {
+    match record.kind {
+        1 | 4 => true,
+        2 | 3 | 7 | 8 | 9 => record.c == 0,
+        5 | 6 => record.b == 0 && record.c == 0,
+        _ => false,
+    }
+}
+
+/// The ranges in the column "a, b, c" of the table of kinds.
+pub fn values_are_in_range(record: Record) -> bool {
+    let Record { kind, a, b, c, .. } = record;
+    match kind {
+        // "bays nx 1..12, bays ny 1..12, slab t 90..500"
+        1 => (1..=12).contains(&a) && (1..=12).contains(&b) && (90..=500).contains(&c),
+        // "fc 20..60 MPa, fy 280, 420 or 520"
+        2 => (20..=60).contains(&a) && (b == 280 || b == 420 || b == 520),
+        // "dead D 1,000..30,000 (slab included), live L 0..50,000"
+        3 => (1_000..=30_000).contains(&a) && (0..=50_000).contains(&b),
+        4 => column_is_in_range(a) && column_is_in_range(b) && sides_are_in_range(c),
+        5 | 6 => span_is_in_range(a),
+        7 | 8 => beam_is_in_range(a, b),
+        // "size along x, along y, 0..12,000"
+        9 => (0..=12_000).contains(&a) && (0..=12_000).contains(&b),
+        _ => false,
+    }
+}
+
+/// "cx, cy 200..1,500, multiples of 10"
+fn column_is_in_range(column: u128) -> bool {
+    (200..=1_500).contains(&column) && column.is_multiple_of(10)
+}
+
+/// "1,000..12,000, a multiple of 20"
+fn span_is_in_range(span: u128) -> bool {
+    (1_000..=12_000).contains(&span) && span.is_multiple_of(20)
+}
+
+/// "width 150..1,000, depth 91..1,500, or both 0"
+fn beam_is_in_range(width: u128, depth: u128) -> bool {
+    let both_zero = width == 0 && depth == 0;
+    both_zero || (150..=1_000).contains(&width) && (91..=1_500).contains(&depth)
+}
+
+/// The codes of the four sides: "each 0 columns, 1 unrestrained, 2 fully restrained".
+#[derive(Clone, Copy, Debug, PartialEq, Eq)]
+pub struct Sides {
+    pub west: u128,
+    pub east: u128,
+    pub south: u128,
+    pub north: u128,
+}
+
+/// "Sides = west + 4·east + 16·south + 64·north"
+pub fn sides(sum: u128) -> Sides {
+    Sides {
+        west: sum % 4,
+        east: sum / 4 % 4,
+        south: sum / 16 % 4,
+        north: sum / 64 % 4,
+    }
+}
+
+/// "a digit 3, or a sum above 170, is out of range"
+fn sides_are_in_range(sum: u128) -> bool {
+    let Sides {
+        west,
+        east,
+        south,
+        north,
+    } = sides(sum);
+    let digit_3 = [west, east, south, north].contains(&3);
+    !digit_3 && sum <= 170
+}
+
+/// 1: "length is no multiple of 16, or below 14 records"
+fn length_is_wrong(floor: &[u8]) -> bool {
+    !floor.len().is_multiple_of(RECORD_BYTES) || floor.len() < 14 * RECORD_BYTES
+}
+
+/// 2: "record 0 is not kind 1 index 0, or nx, ny or t is out of range"
+fn sizes_are_wrong(floor: &[u8]) -> bool {
+    let first = records(floor)[0];
+    (first.kind, first.index) != (1, 0) || !values_are_in_range(first)
+}
+
+/// 3: "record count is not what nx and ny ask"
+fn record_count_is_wrong(floor: &[u8]) -> bool {
+    records(floor).len() != order(sizes(floor)).len()
+}
+
+/// 4: "some kind, index or zero field is not as listed"
+fn some_record_is_not_as_listed(floor: &[u8]) -> bool {
+    records(floor)
+        .into_iter()
+        .zip(order(sizes(floor)))
+        .any(|(record, listed)| {
+            (record.kind, record.index) != listed || !unlisted_fields_are_zero(record)
+        })
+}
+
+/// 5: "some value is out of range, or one beam size alone is 0"
+fn some_value_is_out_of_range(floor: &[u8]) -> bool {
+    !records(floor).into_iter().all(values_are_in_range)
+}
+
+/// 6: "2cx exceeds an x span, or 2cy a y span"
+fn a_column_is_too_wide(floor: &[u8]) -> bool {
+    let columns = records_of_kind(floor, 4)[0];
+    let (cx, cy) = (columns.a, columns.b);
+    let x_spans = records_of_kind(floor, 5);
+    let y_spans = records_of_kind(floor, 6);
+    x_spans.iter().any(|span| 2 * cx > span.a) || y_spans.iter().any(|span| 2 * cy > span.a)
+}
+
+/// 7: "layout not allowed, or a line has a beam whose depth is not above t"
+fn beams_are_wrong(floor: &[u8]) -> bool {
+    let t = sizes(floor).t;
+    let beam_too_shallow = layout::lines(floor)
+        .iter()
+        .any(|line| line.has_beam() && line.depth <= t);
+    layout::layout(floor).is_none() || beam_too_shallow
+}
+
+/// Refusals 1 to 7 "in the order tried", each over the whole file before the next.
+pub fn refusal(floor: &[u8]) -> u128 {
+    if length_is_wrong(floor) {
+        1
+    } else if sizes_are_wrong(floor) {
+        2
+    } else if record_count_is_wrong(floor) {
+        3
+    } else if some_record_is_not_as_listed(floor) {
+        4
+    } else {
+        refusal_5_to_7(floor)
+    }
+}
+
+/// Refusals 5 to 7, for a floor to which 1 to 4 do not apply.
+pub fn refusal_5_to_7(floor: &[u8]) -> u128 {
+    if some_value_is_out_of_range(floor) {
+        5
+    } else if a_column_is_too_wide(floor) {
+        6
+    } else if beams_are_wrong(floor) {
+        7
+    } else {
+        SUCCESS
+    }
+}
