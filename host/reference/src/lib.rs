@@ -1,11 +1,16 @@
 //! The rules of 01 written as plainly as they read.
 //!
 //! Speed and memory count for nothing here. Each rule stands under the sentence of 01 it follows,
-//! and every number is a `u128`, far wider than any value of 01, so no rule needs a word on overflow.
+//! and every number is a `u128`, or an `i128` where it may fall below 0, far wider than any value of
+//! 01, so no rule needs a word on overflow.
 
 pub mod builder;
 pub mod cases;
 pub mod change;
 pub mod floor_file;
 pub mod layout;
+pub mod moments;
+pub mod stiffness;
+pub mod strips;
+pub mod thickness;
 pub mod vectors;

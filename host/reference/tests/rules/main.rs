@@ -2,10 +2,15 @@
 
 mod changes;
 mod floors;
+mod fraction;
 mod hand_made;
 mod layouts;
+mod moments;
 mod order;
 mod ranges;
+mod stiffness;
+mod strips;
+mod thickness;
 mod vectors;
 
 use reference::cases::{self, Case};
