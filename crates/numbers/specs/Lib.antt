@@ -2,3 +2,4 @@ pub mod Rounding
 pub mod Least
 pub mod Tests
 pub mod Records
+pub mod Figures

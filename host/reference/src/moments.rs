@@ -5,7 +5,6 @@ use crate::stiffness::whole_share;
 
 /// "Clear length is max(l1 − column, 0.65·l1)." The column is its size along the frame.
 pub fn clear_length(l1: u128, column: u128) -> u128 {
-    // A span is a multiple of 20, so 0.65 of it is whole.
     (l1 - column).max(13 * whole_share(l1, 20))
 }
 

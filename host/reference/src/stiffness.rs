@@ -9,8 +9,8 @@ pub enum Adjoining {
     Outer { span: u128, column: u128 },
 }
 
-/// "1,000..12,000, a multiple of 20" for spans and "multiples of 10" for columns: a half of either,
-/// and a quarter of a span, is a whole number.
+/// Spans are "a multiple of 20" and columns "multiples of 10", so where 01 takes a half, a quarter or
+/// a twentieth of one of them nothing is lost.
 pub fn whole_share(length: u128, divisor: u128) -> u128 {
     debug_assert!(length.is_multiple_of(divisor), "{length} / {divisor}");
     length / divisor

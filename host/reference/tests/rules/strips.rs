@@ -17,7 +17,7 @@ fn widths_for_the_ratios() {
 
 /// 3333·5000/6000 = 2777.5
 #[test]
-fn a() {
+fn ratio_a() {
     assert_eq!(beam_ratio(0, 6_000, 6_000), 0);
     assert_eq!(beam_ratio(3_333, 5_000, 6_000), 2_777);
     assert_eq!(beam_ratio(9_999, 6_000, 6_000), 9_999);
@@ -28,7 +28,7 @@ fn a() {
 
 /// 6000/7600 = 0.78947, and the ends of what limit 2 allows.
 #[test]
-fn r() {
+fn ratio_r() {
     assert_eq!(span_ratio(6_000, 7_600), 7_894);
     assert_eq!(span_ratio(6_000, 3_000), 20_000);
     assert_eq!(span_ratio(3_000, 6_000), 5_000);
@@ -36,14 +36,14 @@ fn r() {
 
 /// "*Outer 300×600, t 180, l2 6,000": "B 7,364"
 #[test]
-fn b_of_01() {
+fn ratio_b_of_01() {
     let torsion = torsion(line(true, 300, 600), 180);
     assert_eq!(torsion_ratio(Some(torsion), 6_000, 180), 7_364);
 }
 
 /// l2·t³ = 10⁹, so the greatest B begins at T = 125·10⁹.
 #[test]
-fn b_at_its_edges() {
+fn ratio_b_at_its_edges() {
     assert_eq!(torsion_ratio(Some(124_999_999_999), 1_000, 100), 24_999);
     assert_eq!(torsion_ratio(Some(125_000_000_000), 1_000, 100), 25_000);
     assert_eq!(torsion_ratio(Some(130_000_000_000), 1_000, 100), 25_000);

@@ -23,7 +23,7 @@ fn with_beams(clear: (u128, u128), alpha_sum: u128, fy: u128) -> u128 {
     outer
 }
 
-/// The third column of "max(l1 − column, 0.65·l1)" would be 650 here.
+/// The clear length of the moments would be 650 for the second.
 #[test]
 fn clear_spans() {
     assert_eq!(clear_span(6_000, 400), 5_600);
@@ -120,32 +120,41 @@ fn bounds(panel: Panel) -> (u32, Fraction, Fraction) {
     }
 }
 
-#[test]
-fn least_at_its_edges() {
+fn panels() -> Vec<Panel> {
     const CLEAR: [u128; 7] = [500, 1_830, 3_070, 4_870, 5_000, 6_310, 11_800];
     const ALPHA_SUMS: [u128; 8] = [0, 8_000, 8_001, 20_003, 68_000, 80_000, 80_001, 1_000_000];
-    let mut seen = BTreeSet::new();
+    let mut panels = Vec::new();
     for layout in [Everywhere, OuterLinesOnly, NoBeams] {
-        for outer in [true, false] {
-            for x in CLEAR {
-                for y in CLEAR {
-                    for alpha_sum in ALPHA_SUMS {
-                        for fy in [280, 420, 520] {
-                            let panel = panel(layout, outer, (x, y), alpha_sum, fy);
-                            let (case, minimum, required) = bounds(panel);
-                            let t = whole(least_thickness(panel) as i128);
-                            let less = t - whole(1);
-                            assert!(t >= minimum && t >= required, "{panel:?}");
-                            assert!(less < minimum || less < required, "{panel:?}");
-                            seen.insert((case, required > minimum));
-                        }
-                    }
+        for clear in CLEAR.iter().flat_map(|&x| CLEAR.map(|y| (x, y))) {
+            for alpha_sum in ALPHA_SUMS {
+                for fy in [280, 420, 520] {
+                    panels.push(panel(layout, true, clear, alpha_sum, fy));
+                    panels.push(panel(layout, false, clear, alpha_sum, fy));
                 }
             }
         }
     }
-    let each_case_decided_by_each_bound = [1, 2, 3]
-        .into_iter()
-        .flat_map(|case| [(case, false), (case, true)]);
-    assert_eq!(seen, each_case_decided_by_each_bound.collect());
+    panels
+}
+
+#[test]
+fn least_at_its_edges() {
+    let mut seen = BTreeSet::new();
+    for panel in panels() {
+        let (case, minimum, required) = bounds(panel);
+        let t = whole(least_thickness(panel) as i128);
+        let less = t - whole(1);
+        assert!(t >= minimum && t >= required, "{panel:?}");
+        assert!(less < minimum || less < required, "{panel:?}");
+        seen.insert((case, required > minimum));
+    }
+    let each_case_decided_by_each_bound = [
+        (1, false),
+        (1, true),
+        (2, false),
+        (2, true),
+        (3, false),
+        (3, true),
+    ];
+    assert_eq!(seen, BTreeSet::from(each_case_decided_by_each_bound));
 }

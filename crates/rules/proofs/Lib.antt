@@ -1,0 +1,10 @@
+pub mod Widths
+pub mod Stiffness
+pub mod Thinnest
+pub mod Moments
+pub mod EndTable
+pub mod Ratios
+pub mod Parts
+pub mod Signed
+pub mod Strips
+pub mod FiguresHold

@@ -1,0 +1,18 @@
+-- The panel's sides bound the quotient: half a span to two.
+-- Assumes nothing.
+use mathlib.Core.Path.{refl}
+use borrow.Author.Needs.{needs}
+use native.Mathlib.Nat.{le-div-iff-mul-le, div-le-of-le-mul}
+use native.Mathlib.Omega.{arith}
+use Rattle.rules.specs.Ratios.{spanRatio}
+use Rattle.rules.proofs.span.span_ratio.Statement.{statement}
+use Rattle.rules.proofs.span.span_ratio.Tie as tie
+
+pub span-ratio-spec : {M : Type 1} → statement M
+unfolding spanRatio
+span-ratio-spec =
+    tie.close
+    (tie.spec
+    (λ c. search needs)
+    (λ c. search needs)
+    (λ c. (refl, le-div-iff-mul-le (omega arith) .1 (omega arith), div-le-of-le-mul _ (omega arith))))

@@ -1,0 +1,30 @@
+-- The parts of the quotient fit, each factor by the panel's range and S by its own.
+-- Assumes nothing.
+use native.Mathlib.Omega.{arith}
+use borrow.Author.Needs.{needs}
+use Rattle.numbers.proofs.Bounded.{_⊕_, _⊗_, _⊖_, #, fits}
+use Rattle.rules.specs.LeastThickness.{middling}
+use Rattle.rules.proofs.Thinnest.{shorter-most}
+use Rattle.rules.proofs.thickness.middling.Statement.{statement}
+use Rattle.rules.proofs.thickness.middling.Tie as tie
+
+pub middling-spec : {M : Type 1} → statement M
+unfolding middling
+middling-spec =
+    tie.close
+    (tie.spec
+    (λ c. search needs)
+    (λ c. let p = c .pre .panel in fits (# _ ⊗ p .most ⊗ shorter-most p) tt)
+    (λ c. search needs)
+    (λ c. let p = c .pre .panel in fits (# _ ⊗ p .most ⊗ shorter-most p ⊗ (# _ ⊕ p .grade)) tt)
+    (λ c. search needs)
+    (λ c. search needs)
+    (λ c. search needs)
+    (λ c. fits (# _ ⊗ c .pre .panel .most ⊗ (c .pre .most ⊖ _)) tt)
+    (λ c. let p = c .pre .panel in fits (# _ ⊗ shorter-most p ⊕ # _ ⊗ p .most ⊗ (c .pre .most ⊖ _)) tt)
+    (λ c. let p = c .pre .panel in fits (# _ ⊗ (# _ ⊗ shorter-most p ⊕ # _ ⊗ p .most ⊗ (c .pre .most ⊖ _))) tt)
+    (λ c κs. let p = c .pre .panel in record {
+      positive = search needs;
+      room = omega (arith, # 40000 ⊗ p .most ⊗ shorter-most p ⊗ (# 1120 ⊕ p .grade), # 5 ⊗ p .most ⊗ (c .pre .most ⊖ 8000));
+    })
+    (λ c. cc))

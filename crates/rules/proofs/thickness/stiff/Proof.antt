@@ -1,0 +1,27 @@
+-- The parts of the quotient fit, each factor by the panel's range.
+-- Assumes nothing.
+use native.Mathlib.Omega.{arith}
+use borrow.Author.Needs.{needs}
+use Rattle.numbers.proofs.Bounded.{_⊕_, _⊗_, #, fits}
+use Rattle.rules.specs.LeastThickness.{stiff}
+use Rattle.rules.proofs.Thinnest.{shorter-most}
+use Rattle.rules.proofs.thickness.stiff.Statement.{statement}
+use Rattle.rules.proofs.thickness.stiff.Tie as tie
+
+pub stiff-spec : {M : Type 1} → statement M
+unfolding stiff
+stiff-spec =
+    tie.close
+    (tie.spec
+    (λ c. fits (c .pre .most ⊗ shorter-most (c .pre)) tt)
+    (λ c. search needs)
+    (λ c. fits (c .pre .most ⊗ shorter-most (c .pre) ⊗ (# _ ⊕ c .pre .grade)) tt)
+    (λ c. search needs)
+    (λ c. search needs)
+    (λ c. search needs)
+    (λ c. search needs)
+    (λ c κs. record {
+      positive = search needs;
+      room = omega (arith, c .pre .most ⊗ shorter-most (c .pre) ⊗ (# 1120 ⊕ c .pre .grade));
+    })
+    (λ c. cc))

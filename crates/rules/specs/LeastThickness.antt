@@ -1,0 +1,75 @@
+-- "Least thickness": what is asked of t, and the number that it comes to.
+-- sn and ln are the panel's shorter and longer clear spans, S the sum of its four line α.
+-- Assumes nothing.
+use Prim.Native.Nat.{ℕ, _+_, _-_, _*_, _≤_, max}
+use mathlib.Core.Bool.{Bool, cond, _&&_}
+use mathlib.Core.List.{List, [], _∷_}
+use mathlib.Core.Path.{_≡_}
+use lib.ListN.{getD}
+use lib.Dec.{eqb, ltb}
+use Rattle.numbers.specs.Rounding.{up}
+use Rattle.numbers.specs.Least.{Least}
+use Rattle.rules.specs.declared.thickness.Place.{Place}
+use Rattle.rules.specs.declared.thickness.Place.the-variants.{Bare, Edged, Inner}
+
+-- "n for outer panel without edge beams, outer with, inner: fy 280: 33, 36, 36; fy 420: 30, 33, 33; fy 520: 28, 31, 31"
+abbrev pub divisors : List (List ℕ)
+divisors = (33 ∷ 36 ∷ 36 ∷ []) ∷ (30 ∷ 33 ∷ 33 ∷ []) ∷ (28 ∷ 31 ∷ 31 ∷ []) ∷ []
+
+abbrev pub gradeRow : ℕ → ℕ
+gradeRow fy = cond (eqb fy 280) 0 (cond (eqb fy 420) 1 2)
+
+abbrev pub panelColumn : Place → ℕ
+panelColumn Bare = 0
+panelColumn Edged = 1
+panelColumn Inner = 2
+
+unfoldable pub divisor : ℕ → Place → ℕ
+divisor fy place = getD (getD divisors (gradeRow fy) []) (panelColumn place) 0
+
+-- "beams everywhere, S > 80000"; "beams everywhere, 8000 < S ≤ 80000"; "otherwise"
+abbrev pub byStiffness {ℓ} : {A : Type ℓ} → Bool → ℕ → A → A → A → A
+byStiffness everywhere S stiff middling other =
+    cond (everywhere && ltb 80000 S) stiff (cond (everywhere && ltb 8000 S) middling other)
+
+-- ---- what is asked of t
+
+-- "1400·t·(36sn + 9ln) ≥ ln·sn·(1120 + fy), and t ≥ 90"
+unfoldable pub Stiff : ℕ → ℕ → ℕ → ℕ → Type 0
+Stiff fy sn ln t = (ln * sn * (1120 + fy) ≤ 1400 * t * (36 * sn + 9 * ln)) × (90 ≤ t)
+
+-- "1400·t·(1440000sn + 5ln(S − 8000)) ≥ 40000·ln·sn·(1120 + fy), and t ≥ 125"
+unfoldable pub Middling : ℕ → ℕ → ℕ → ℕ → ℕ → Type 0
+Middling fy sn ln S t =
+    (40000 * ln * sn * (1120 + fy) ≤ 1400 * t * (1440000 * sn + 5 * ln * (S - 8000))) × (125 ≤ t)
+
+-- "t·n ≥ ln, t ≥ 125"
+unfoldable pub Tabled : ℕ → ℕ → ℕ → Type 0
+Tabled n ln t = (ln ≤ t * n) × (125 ≤ t)
+
+unfoldable pub Enough : Bool → Place → ℕ → ℕ → ℕ → ℕ → ℕ → Type 0
+Enough everywhere place fy sn ln S =
+    byStiffness everywhere S (Stiff fy sn ln) (Middling fy sn ln S) (Tabled (divisor fy place) ln)
+
+-- ---- the number that it comes to
+
+unfoldable pub stiff : ℕ → ℕ → ℕ → ℕ
+stiff fy sn ln = max 90 (up (ln * sn * (1120 + fy)) (1400 * (36 * sn + 9 * ln)))
+
+unfoldable pub middling : ℕ → ℕ → ℕ → ℕ → ℕ
+middling fy sn ln S =
+    max 125 (up (40000 * ln * sn * (1120 + fy)) (1400 * (1440000 * sn + 5 * ln * (S - 8000))))
+
+unfoldable pub tabled : ℕ → ℕ → ℕ
+tabled n ln = max 125 (up ln n)
+
+unfoldable pub leastThickness : Bool → Place → ℕ → ℕ → ℕ → ℕ → ℕ
+leastThickness everywhere place fy sn ln S =
+    byStiffness everywhere S (stiff fy sn ln) (middling fy sn ln S) (tabled (divisor fy place) ln)
+
+-- "Answer the least whole mm t": what is promised of the answer r
+pub record Thinnest (everywhere : Bool) (place : Place) (fy sn ln S r : ℕ) : Type 0 where
+  pub least : Least (Enough everywhere place fy sn ln S) r
+  pub is : r ≡ leastThickness everywhere place fy sn ln S
+  pub from : 90 ≤ r
+  pub most : r ≤ 422
