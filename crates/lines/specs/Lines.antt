@@ -1,0 +1,84 @@
+-- "Line stiffness" and "Least thickness", of a floor: the widths and α of its lines, and the least thickness of its panels.
+-- Assumes nothing.
+use Prim.Native.Nat.{ℕ, _+_, _-_, min, max}
+use mathlib.Core.Bool.{Bool, true, false, cond, _||_}
+use mathlib.Core.List.{List}
+use lib.Dec.{eqb}
+use Rattle.plan.specs.declared.ways.Way.{Way}
+use Rattle.plan.specs.declared.ways.Way.the-variants.{X, Y}
+use Rattle.plan.specs.Ways.{across}
+use Rattle.plan.specs.Plan.{thickness, grade, column, span, lastLine, beamWidth, beamDepth}
+use Rattle.floor.specs.declared.layout.Layout.{Layout}
+use Rattle.floor.specs.declared.layout.Layout.the-variants.{Everywhere, OuterOnly, Bare}
+use Rattle.floor.specs.Layouts.{outerLine, layoutOf}
+use Rattle.rules.specs.declared.thickness.Place.{Place}
+use Rattle.rules.specs.declared.thickness.Place.the-variants.{Edged, Inner}
+use Rattle.rules.specs.Lines.{frameWidth, alpha}
+use Rattle.rules.specs.LeastThickness.{Enough, leastThickness}
+
+-- ---- line l along d
+
+abbrev pub outer : List ℕ → Way → ℕ → Bool
+outer f d l = outerLine (lastLine f d) l
+
+-- the spans on its low and on its high side, 0 past an outer line
+unfoldable pub below : List ℕ → Way → ℕ → ℕ
+below f d l = cond (eqb l 0) 0 (span f (across d) (l - 1))
+
+abbrev pub above : List ℕ → Way → ℕ → ℕ
+above f d l = span f (across d) l
+
+-- "Frame width W"
+abbrev pub lineWidth : List ℕ → Way → ℕ → ℕ
+lineWidth f d l = frameWidth (outer f d l) (below f d l) (above f d l) (column f (across d))
+
+-- α
+unfoldable pub lineAlpha : List ℕ → Way → ℕ → ℕ
+lineAlpha f d l = alpha (outer f d l) (beamWidth f d l) (beamDepth f d l) (lineWidth f d l) (thickness f)
+
+-- ---- the panel of x bay i and y bay j lies between x lines j and j + 1, and y lines i and i + 1
+
+-- the sum of α of the two lines along d beside bay k across d
+unfoldable pub pairAlpha : List ℕ → Way → ℕ → ℕ
+pairAlpha f d k = lineAlpha f d k + lineAlpha f d (k + 1)
+
+-- "S the sum of its four line α"
+abbrev pub panelAlpha : List ℕ → ℕ → ℕ → ℕ
+panelAlpha f i j = pairAlpha f X j + pairAlpha f Y i
+
+-- "clear spans (span − column)"
+unfoldable pub clearSpan : List ℕ → Way → ℕ → ℕ
+clearSpan f d k = span f d k - column f d
+
+-- an outer panel touches at least one outer line
+abbrev pub touches : List ℕ → Way → ℕ → Bool
+touches f d k = outer f d k || outer f d (k + 1)
+
+unfoldable pub outerPanel : List ℕ → ℕ → ℕ → Bool
+outerPanel f i j = touches f X j || touches f Y i
+
+-- "outer panel without edge beams, outer with, inner": the outer lines have beams in each layout but the bare one
+abbrev pub edgePlace : Layout → Place
+edgePlace Everywhere = Edged
+edgePlace OuterOnly = Edged
+edgePlace Bare = Rattle.rules.specs.declared.thickness.Place.the-variants.Bare
+
+unfoldable pub panelPlace : List ℕ → ℕ → ℕ → Place
+panelPlace f i j = cond (outerPanel f i j) (edgePlace (layoutOf f)) Inner
+
+-- "beams everywhere"
+abbrev pub isEverywhere : Layout → Bool
+isEverywhere Everywhere = true
+isEverywhere OuterOnly = false
+isEverywhere Bare = false
+
+-- what is asked of a thickness of the panel, and the least that it comes to
+abbrev pub PanelEnough : List ℕ → ℕ → ℕ → ℕ → Type 0
+PanelEnough f i j =
+    Enough (isEverywhere (layoutOf f)) (panelPlace f i j) (grade f)
+    (min (clearSpan f X i) (clearSpan f Y j)) (max (clearSpan f X i) (clearSpan f Y j)) (panelAlpha f i j)
+
+unfoldable pub panelThickness : List ℕ → ℕ → ℕ → ℕ
+panelThickness f i j =
+    leastThickness (isEverywhere (layoutOf f)) (panelPlace f i j) (grade f)
+    (min (clearSpan f X i) (clearSpan f Y j)) (max (clearSpan f X i) (clearSpan f Y j)) (panelAlpha f i j)
