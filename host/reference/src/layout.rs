@@ -33,15 +33,22 @@ impl Line {
     }
 }
 
-/// "7 beam on x line", "8 beam on y line": the x lines are 0 to ny, the y lines 0 to nx.
+/// "7 beam on x line": the x lines are 0 to ny.
+pub fn x_lines(floor: &[u8]) -> Vec<Line> {
+    let last = sizes(floor).ny;
+    let beams = records_of_kind(floor, 7).into_iter();
+    beams.map(|beam| Line::of(beam, last)).collect()
+}
+
+/// "8 beam on y line": the y lines are 0 to nx.
+pub fn y_lines(floor: &[u8]) -> Vec<Line> {
+    let last = sizes(floor).nx;
+    let beams = records_of_kind(floor, 8).into_iter();
+    beams.map(|beam| Line::of(beam, last)).collect()
+}
+
 pub fn lines(floor: &[u8]) -> Vec<Line> {
-    let sizes = sizes(floor);
-    let x_lines = records_of_kind(floor, 7).into_iter();
-    let y_lines = records_of_kind(floor, 8).into_iter();
-    x_lines
-        .map(|beam| Line::of(beam, sizes.ny))
-        .chain(y_lines.map(|beam| Line::of(beam, sizes.nx)))
-        .collect()
+    [x_lines(floor), y_lines(floor)].concat()
 }
 
 /// `None` where the layout is not allowed.

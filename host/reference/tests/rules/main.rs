@@ -7,11 +7,13 @@ mod hand_made;
 mod layouts;
 mod moments;
 mod order;
+mod panel;
 mod ranges;
 mod stiffness;
 mod strips;
 mod thickness;
 mod vectors;
+mod verdict;
 
 use reference::cases::{self, Case};
 use reference::vectors::line;

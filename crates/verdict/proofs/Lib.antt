@@ -1,0 +1,6 @@
+pub mod Digits
+pub mod Meaning
+pub mod Edges
+pub mod AtPlace
+pub mod Sum
+pub mod Answers

@@ -1,0 +1,145 @@
+-- What each limit says, both ways, put together from the parts of its test; and that the verdict is the one number that says which are broken.
+--     broken, broken-one     the verdict's digits are the limits, and no other number's are
+--     clear                  it is 0 exactly where no limit is broken
+-- Assumes nothing.
+use Prim.Native.Nat.{ℕ, _+_, _*_, _-_, _/_, _≤_, _<_}
+use mathlib.Core.Bool.{Bool, _||_}
+use mathlib.Core.List.{List}
+use mathlib.Core.Logic.{_⊎_, _↔_, inl, inr}
+use mathlib.Core.Path.{_≡_, refl, sym, subst}
+use native.Mathlib.Omega.{arith}
+use Rattle.numbers.specs.Tests.{Some, Says}
+use Rattle.numbers.proofs.Tests.{says-lt, says-or, says-and, says-as, says-some}
+use Rattle.plan.specs.declared.ways.Way.{Way}
+use Rattle.plan.specs.declared.ways.Way.the-variants.{X, Y}
+use Rattle.plan.specs.Plan.{bays, span, lastLine}
+use Rattle.floor.specs.Refusal.{refusal}
+use Rattle.lines.proofs.Meaning.{says-everywhere}
+use Rattle.verdict.specs.Limits.{somePair, somePanel, few, slenderPanel, uneven, offsetAt, astrayAt, astray, heavy, unequalPanel, unbalanced, thinPanel, verdict}
+use Rattle.verdict.specs.Meaning.{SomePanel, Few, Slender, UnevenAlong, AstrayAlong, Heavy, Unbalanced, Thin, Broken, Clear}
+use Rattle.verdict.proofs.Digits.{digits, sum-most, says-digit, same-digit, same-digits}
+
+-- a test along x or along y says it of a direction
+says-way : {p : Way → Bool} {P : Way → Type 0} → ((d : Way) → Says (p d) (P d)) → Says (p X || p Y) ((d : Way) × P d)
+says-way {p} {P} s = says-as to from (says-or (s X) (s Y))
+  where
+    to : P X ⊎ P Y → (d : Way) × P d
+    to (inl x) = (X, x)
+    to (inr y) = (Y, y)
+
+    from : ((d : Way) × P d) → P X ⊎ P Y
+    from (X, x) = inl x
+    from (Y, y) = inr y
+
+says-pair : (nx ny : ℕ) {p : ℕ → ℕ → Bool} {P : ℕ → ℕ → Type 0} → ((i j : ℕ) → Says (p i j) (P i j))
+    → Says (somePair nx ny p) ((i j : ℕ) × (i < nx) × (j < ny) × P i j)
+unfolding somePair
+says-pair nx ny s =
+    says-as (λ h. (h .2 .0, h .0, h .2 .1, h .1, h .2 .2)) (λ h. (h .1, h .3, (h .0, h .2, h .4))) (says-some ny (λ j. says-some nx (λ i. s i j)))
+
+module _ (f : List ℕ) where
+  -- ---- each limit
+
+  says-few : Says (few f) (Few f)
+  unfolding few
+  says-few = says-or (says-lt (bays f X) 3) (says-lt (bays f Y) 3)
+
+  says-slender : Says (somePanel f (slenderPanel f)) (Slender f)
+  unfolding slenderPanel
+  says-slender = says-pair (bays f X) (bays f Y) (λ i j. says-lt _ _)
+
+  uneven-along : (d : Way) → Says (uneven f d) (UnevenAlong f d)
+  unfolding uneven
+  uneven-along d =
+      says-as (λ h. (h .0, omega (arith, h .1), h .2)) (λ h. (h .0, omega (arith, h .1), h .2)) (says-some (bays f d - 1) (λ k. says-lt _ _))
+
+  -- a span with a column at one of its ends, and a column with a span that adjoins it
+  abbrev Over : Way → ℕ → ℕ → ℕ → Type 0
+  Over d s k m = span f d s < 10 * offsetAt f d k m
+
+  abbrev AtEnds : Way → Type 0
+  AtEnds d = (s m : ℕ) × (s < bays f d) × (m < lastLine f d + 1) × (Over d s s m ⊎ Over d s (s + 1) m)
+
+  astray-along : (d : Way) → Says (astray f d) (AstrayAlong f d)
+  unfolding astray astrayAt
+  astray-along d = says-as to from (says-pair (bays f d) (lastLine f d + 1) (λ k m. says-or (says-lt _ _) (says-lt _ _)))
+    where
+      to : AtEnds d → AstrayAlong f d
+      to (s, m, hs, hm, inl q) = (s, m, s, omega arith, omega arith, hs, inl refl, q)
+      to (s, m, hs, hm, inr q) = (s + 1, m, s, omega arith, omega arith, hs, inr refl, q)
+
+      from : AstrayAlong f d → AtEnds d
+      from (k, m, s, hk, hm, hs, inl e, q) = (s, m, hs, omega arith, inl (subst (λ n. Over d s n m) (sym e) q))
+      from (k, m, s, hk, hm, hs, inr e, q) = (s, m, hs, omega arith, inr (subst (λ n. Over d s n m) (sym e) q))
+
+  says-heavy : Says (heavy f) (Heavy f)
+  unfolding heavy
+  says-heavy = says-lt _ _
+
+  says-unbalanced : refusal f ≡ 0 → Says (unbalanced f) (Unbalanced f)
+  unfolding unbalanced unequalPanel
+  says-unbalanced e = says-and (says-everywhere f e) (says-pair (bays f X) (bays f Y) (λ i j. says-or (says-lt _ _) (says-lt _ _)))
+
+  says-thin : Says (somePanel f (thinPanel f)) (Thin f)
+  unfolding thinPanel
+  says-thin = says-pair (bays f X) (bays f Y) (λ i j. says-lt _ _)
+
+  -- ---- the sum
+
+  pub broken : refusal f ≡ 0 → Broken f (verdict f)
+  unfolding verdict
+  broken e =
+      let d =
+      digits (few f) (somePanel f (slenderPanel f)) (uneven f X || uneven f Y) (astray f X || astray f Y) (heavy f) (unbalanced f) (somePanel f (thinPanel f))
+      in
+      record {
+        one = says-digit says-few (d .0);
+        two = says-digit says-slender (d .1);
+        four = says-digit (says-way uneven-along) (d .2);
+        eight = says-digit (says-way astray-along) (d .3);
+        sixteen = says-digit says-heavy (d .4);
+        thirtyTwo = says-digit (says-unbalanced e) (d .5);
+        sixtyFour = says-digit says-thin (d .6);
+        most = sum-most (few f) (somePanel f (slenderPanel f)) (uneven f X || uneven f Y) (astray f X || astray f Y) (heavy f) (unbalanced f) (somePanel f (thinPanel f));
+      }
+
+-- no second number says what is broken
+pub broken-one : {f : List ℕ} {v w : ℕ} → Broken f v → Broken f w → v ≡ w
+broken-one {f} {v} {w} p q =
+    same-digits (p .most) (q .most) (same-digit v w (p .one) (q .one)) (same-digit (v / 2) (w / 2) (p .two) (q .two))
+    (same-digit (v / 4) (w / 4) (p .four) (q .four)) (same-digit (v / 8) (w / 8) (p .eight) (q .eight))
+    (same-digit (v / 16) (w / 16) (p .sixteen) (q .sixteen)) (same-digit (v / 32) (w / 32) (p .thirtyTwo) (q .thirtyTwo))
+    (same-digit (v / 64) (w / 64) (p .sixtyFour) (q .sixtyFour))
+
+-- 0 says that nothing is broken, and only 0 does
+nothing : {f : List ℕ} → Broken f 0 → Clear f
+nothing b =
+    record {
+      one = λ h. omega (arith, b .one .1 h);
+      two = λ h. omega (arith, b .two .1 h);
+      four = λ h. omega (arith, b .four .1 h);
+      eight = λ h. omega (arith, b .eight .1 h);
+      sixteen = λ h. omega (arith, b .sixteen .1 h);
+      thirtyTwo = λ h. omega (arith, b .thirtyTwo .1 h);
+      sixtyFour = λ h. omega (arith, b .sixtyFour .1 h);
+    }
+
+-- no digit of 0 is 1
+unset : {P : Type 0} → ¬ P → (_≡_ {A = ℕ} 0 1) ↔ P
+unset n = (λ e. absurd (omega arith), λ p. absurd (n p))
+
+zero-says : {f : List ℕ} → Clear f → Broken f 0
+zero-says n =
+    record {
+      one = unset (n .one);
+      two = unset (n .two);
+      four = unset (n .four);
+      eight = unset (n .eight);
+      sixteen = unset (n .sixteen);
+      thirtyTwo = unset (n .thirtyTwo);
+      sixtyFour = unset (n .sixtyFour);
+      most = omega arith;
+    }
+
+pub clear : (f : List ℕ) → refusal f ≡ 0 → (verdict f ≡ 0) ↔ Clear f
+clear f e = (λ z. nothing (subst (Broken f) z (broken f e)), λ n. broken-one (broken f e) (zero-says n))

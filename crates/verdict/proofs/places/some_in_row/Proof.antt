@@ -1,0 +1,33 @@
+-- The loop stops at the first place of the row that breaks the limit.
+-- Assumes nothing.
+use Prim.Native.Nat.{_≤_, _-_}
+use mathlib.Core.Bool.{true, false}
+use mathlib.Core.Path.{_≡_, sym, _∙_}
+use borrow.Author.Needs.{needs}
+use Rattle.numbers.specs.Tests.{some}
+use Rattle.numbers.proofs.Tests.{none, more, found, done}
+use Rattle.verdict.specs.Places.{breaks, someInRow}
+use Rattle.verdict.proofs.places.some_in_row.Statement.{statement}
+use Rattle.verdict.proofs.places.some_in_row.Tie as tie
+
+abbrev Inv-loop : tie.InvT-loop
+Inv-loop f layout ax ay limit m n k₀ k = (k ≤ n) × (some k (λ i. breaks f limit i m) ≡ false)
+
+abbrev μ-loop : tie.MeasureT-loop
+μ-loop f layout ax ay limit m n k₀ k = n - k
+
+pub some-in-row-spec : {M : Type 1} → statement M
+unfolding someInRow
+some-in-row-spec =
+    tie.close
+    (tie.spec
+    Inv-loop
+    μ-loop
+    (λ c κs. record { accepted = c .before .pre .ready .accepted })
+    (λ c. (search needs, none true _))
+    (λ c κs. search needs)
+    (λ c. rw (← c .before .before .before .before .along .ensures .0) (sym (found true _ _ _ (c .before .before .loop-test .taken) (sym (c .before .breaks .ensures) ∙ c .if1 .taken))))
+    (λ c. search needs)
+    (λ c. search needs)
+    (λ c. (search needs, more true _ _ (c .before .before .before .loop .inv .1) (sym (c .before .breaks .ensures) ∙ c .if1 .left)))
+    (λ c. rw (← c .before .before .along .ensures .0) (sym (done true _ _ _ (c .before .loop .inv .0) (c .loop-test .left) (c .before .loop .inv .1)))))

@@ -1,0 +1,6 @@
+pub mod Limits
+pub mod Places
+pub mod Held
+pub mod Meaning
+pub mod Edges
+pub mod Answers

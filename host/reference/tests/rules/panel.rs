@@ -1,0 +1,285 @@
+//! The panel query, and least thicknesses as the command prints them.
+
+use crate::hand_made::{self, ONE_BAY, THIN, TWO_BY_ONE};
+use crate::verdict::{clear, refused, transposed};
+use reference::builder::Floor;
+use reference::panel::{adjoining, panel, x_line_alphas, y_line_alphas};
+use reference::stiffness::Adjoining;
+use reference::verdict::{judge, judged};
+use std::collections::BTreeSet;
+use std::io::Write;
+use std::process::{Command, Stdio};
+
+#[test]
+fn what_adjoins_first_inner_and_last_lines() {
+    let spans = [4_000, 5_000, 6_000];
+    let outer = |span| Adjoining::Outer { span, column: 300 };
+    let inside = |low_span, high_span| Adjoining::Inside {
+        low_span,
+        high_span,
+    };
+    assert_eq!(adjoining(0, &spans, 300), outer(4_000));
+    assert_eq!(adjoining(1, &spans, 300), inside(4_000, 5_000));
+    assert_eq!(adjoining(2, &spans, 300), inside(5_000, 6_000));
+    assert_eq!(adjoining(3, &spans, 300), outer(6_000));
+    assert_eq!(adjoining(0, &[4_000], 300), outer(4_000));
+    assert_eq!(adjoining(1, &[4_000], 300), outer(4_000));
+}
+
+/// Beams of twice the slab's depth: α is 40000·8·b/(2W) = 160000·b/W inside, 120000·b/W outside. Of
+/// the x lines W is (4000 + 800)/2 = 2400, (4000 + 5000)/2 = 4500, (5000 + 800)/2 = 2900; of the
+/// y lines (6000 + 400)/2 = 3200 twice.
+#[test]
+fn alphas_by_direction() {
+    let mut floor = clear(1, 2);
+    (floor.cx, floor.cy) = (400, 800);
+    floor.y_spans = vec![4_000, 5_000];
+    floor.x_lines = vec![(200, 400), (450, 400), (290, 400)];
+    floor.y_lines = vec![(320, 400), (161, 400)];
+    let bytes = floor.bytes();
+    assert_eq!(x_line_alphas(&bytes), [10_000, 16_000, 12_000]);
+    assert_eq!(y_line_alphas(&bytes), [12_000, 6_037]);
+    let bytes = transposed(&floor).bytes();
+    assert_eq!(x_line_alphas(&bytes), [12_000, 6_037]);
+    assert_eq!(y_line_alphas(&bytes), [10_000, 16_000, 12_000]);
+}
+
+/// Clear spans are 5600, 4600, 3600 along x and 3700, 4700, 5200, 4700 along y. The longer one is
+/// divided by 30 in outer panels and by 33 in the two inner ones: 4700/33 = 142.4, 5200/33 = 157.6.
+fn without_beams() -> Floor {
+    Floor {
+        cx: 400,
+        cy: 300,
+        x_spans: vec![6_000, 5_000, 4_000],
+        y_spans: vec![4_000, 5_000, 5_500, 5_000],
+        ..Floor::good(3, 4)
+    }
+}
+
+const WITHOUT_BEAMS: &str = "0 0
+187 154 125
+187 143 157
+187 158 174
+187 157 157
+";
+
+const WITHOUT_BEAMS_TRANSPOSED: &str = "0 0
+187 187 187 187
+154 143 158 157
+125 157 174 157
+";
+
+/// Beams of twice the slab's depth, clear spans of 5600. α is 80·b/3 inside and 37.5·b outside: 6000,
+/// 4000, 12000 on x lines and 18000, 16000, 30000 on y lines. Against p the q of a panel is at most
+/// 46000 to 10000. S is 44000 and 56000 south, 50000 and 62000 north, and 40000·5600·1.1 is
+/// 152.1 and 146.7, 149.3 and 144.1 times 1440000 + 5(S − 8000).
+fn with_beams() -> Floor {
+    Floor {
+        t: 125,
+        x_lines: vec![(160, 250), (150, 250), (320, 250)],
+        y_lines: vec![(480, 250), (600, 250), (800, 250)],
+        ..clear(2, 2)
+    }
+}
+
+const WITH_BEAMS: &str = "0 65
+153 147
+150 145
+";
+
+const WITH_BEAMS_TRANSPOSED: &str = "0 65
+153 150
+147 145
+";
+
+#[test]
+fn floors_judged() {
+    assert_eq!(judged(&without_beams().bytes()), WITHOUT_BEAMS);
+    assert_eq!(
+        judged(&transposed(&without_beams()).bytes()),
+        WITHOUT_BEAMS_TRANSPOSED
+    );
+    assert_eq!(judged(&with_beams().bytes()), WITH_BEAMS);
+    assert_eq!(
+        judged(&transposed(&with_beams()).bytes()),
+        WITH_BEAMS_TRANSPOSED
+    );
+}
+
+/// 3600/30 = 120 is below the least of 125; 3800·1.1/45 = 92.9; 6650/36 = 184.7.
+#[test]
+fn typed_floors_judged() {
+    assert_eq!(judged(&hand_made::floor(ONE_BAY)), "0 1\n125\n");
+    assert_eq!(judged(&hand_made::floor(THIN)), "0 65\n93\n");
+    assert_eq!(judged(&hand_made::floor(TWO_BY_ONE)), "0 65\n185 185\n");
+}
+
+/// 5600 by the divisors of each grade: 33, 30, 28 outer and 36, 33, 31 inner.
+#[test]
+fn grades() {
+    for (fy, outer, inner) in [(280, 170, 156), (420, 187, 170), (520, 200, 181)] {
+        let mut floor = clear(3, 3);
+        floor.fy = fy;
+        assert_eq!(panel(&floor.bytes(), 0, 1), (0, outer));
+        assert_eq!(panel(&floor.bytes(), 1, 1), (0, inner));
+        assert_eq!(panel(&floor.bytes(), 2, 1), (0, outer));
+        assert_eq!(panel(&floor.bytes(), 1, 2), (0, outer));
+    }
+}
+
+/// "A panel query names an x bay and a y bay, each from 0"
+#[test]
+fn panels_asked_for() {
+    let floor = without_beams().bytes();
+    for (y, row) in (0..).zip(WITHOUT_BEAMS.lines().skip(1)) {
+        for (x, thickness) in (0..).zip(row.split(' ')) {
+            assert_eq!(panel(&floor, x, y), (0, thickness.parse().unwrap()));
+        }
+    }
+}
+
+/// "10": "no such panel". "Refused queries answer 0 mm".
+#[test]
+fn no_such_panel() {
+    const HUGE: [u128; 6] = [256, 1 << 16, u32::MAX as u128, 1 << 32, 1 << 64, u128::MAX];
+    let floor = without_beams().bytes();
+    assert_eq!(panel(&floor, 2, 3), (0, 157));
+    for (x, y) in [(3, 0), (3, 2), (3, 3), (0, 4), (2, 4), (3, 4)] {
+        assert_eq!(panel(&floor, x, y), (10, 0), "{x} {y}");
+    }
+    for huge in HUGE {
+        for (x, y) in [(huge, 0), (0, huge), (huge, huge)] {
+            assert_eq!(panel(&floor, x, y), (10, 0), "{x} {y}");
+        }
+    }
+    let one_bay = hand_made::floor(ONE_BAY);
+    assert_eq!(panel(&one_bay, 0, 0), (0, 125));
+    assert_eq!(panel(&one_bay, 1, 0), (10, 0));
+    assert_eq!(panel(&one_bay, 0, 1), (10, 0));
+    let largest = clear(12, 12).bytes();
+    assert_eq!(panel(&largest, 11, 11), (0, 187));
+    assert_eq!(panel(&largest, 10, 10), (0, 170));
+    assert_eq!(panel(&largest, 12, 11), (10, 0));
+    assert_eq!(panel(&largest, 11, 12), (10, 0));
+}
+
+/// "it tries 1 to 7, then 10"
+#[test]
+fn refused_floors() {
+    for (number, floor) in refused() {
+        assert_eq!(panel(&floor, 0, 0), (number, 0));
+        assert_eq!(panel(&floor, 12, 12), (number, 0));
+        assert_eq!(judged(&floor), format!("{number} 255\n"));
+    }
+    assert_eq!(panel(&[], 0, 0), (1, 0));
+    assert_eq!(judged(&[]), "1 255\n");
+}
+
+fn printed_by_the_command(floor: &[u8]) -> String {
+    let mut command = Command::new(env!("CARGO_BIN_EXE_reference"))
+        .arg("judge")
+        .stdin(Stdio::piped())
+        .stdout(Stdio::piped())
+        .spawn()
+        .unwrap();
+    // Taken, so that it is closed once written.
+    command.stdin.take().unwrap().write_all(floor).unwrap();
+    let output = command.wait_with_output().unwrap();
+    assert!(output.status.success());
+    String::from_utf8(output.stdout).unwrap()
+}
+
+#[test]
+fn the_command_prints_what_is_judged() {
+    let one_bay = hand_made::floor(ONE_BAY);
+    assert_eq!(printed_by_the_command(&one_bay), "0 1\n125\n");
+    assert_eq!(printed_by_the_command(&one_bay[1..]), "1 255\n");
+    assert_eq!(
+        printed_by_the_command(&without_beams().bytes()),
+        WITHOUT_BEAMS
+    );
+}
+
+/// Draws the same numbers each time.
+struct Numbers(u64);
+
+impl Numbers {
+    /// Both ends included.
+    fn draw(&mut self, low: u128, high: u128) -> u128 {
+        // The generator of Knuth's MMIX; its low bits repeat soonest.
+        self.0 = self.0.wrapping_mul(6_364_136_223_846_793_005);
+        self.0 = self.0.wrapping_add(1_442_695_040_888_963_407);
+        low + u128::from(self.0 >> 33) % (high - low + 1)
+    }
+
+    fn spans(&mut self, middle: u128) -> Vec<u128> {
+        let bays = self.draw(1, 5);
+        let spread = self.draw(0, 90);
+        (0..bays)
+            .map(|_| 20 * self.draw(middle - spread, middle + spread))
+            .collect()
+    }
+
+    fn beams(&mut self, lines: usize) -> Vec<(u128, u128)> {
+        let (width, depth) = (self.draw(150, 800), self.draw(300, 900));
+        (0..lines)
+            .map(|_| (width + self.draw(0, 200), depth + self.draw(0, 50)))
+            .collect()
+    }
+
+    fn floor(&mut self) -> Floor {
+        let middle = self.draw(150, 350);
+        let (x_spans, y_spans) = (self.spans(middle), self.spans(middle + 50));
+        let (nx, ny) = (x_spans.len(), y_spans.len());
+        let largest_offset = self.draw(0, 500);
+        let mut floor = Floor {
+            t: self.draw(90, 290),
+            fy: [280, 420, 520][self.draw(0, 2) as usize],
+            dead: self.draw(1_000, 5_000),
+            live: self.draw(0, 6_000),
+            cx: 10 * self.draw(20, 60),
+            cy: 10 * self.draw(20, 60),
+            x_spans,
+            y_spans,
+            offsets: (0..(nx + 1) * (ny + 1))
+                .map(|_| (self.draw(0, largest_offset), self.draw(0, largest_offset)))
+                .collect(),
+            ..Floor::good(nx, ny)
+        };
+        let layout = self.draw(0, 3);
+        if layout > 0 {
+            floor.x_lines = self.beams(ny + 1);
+            floor.y_lines = self.beams(nx + 1);
+        }
+        if layout == 1 {
+            floor.x_lines[1..ny].fill((0, 0));
+            floor.y_lines[1..nx].fill((0, 0));
+        }
+        floor
+    }
+}
+
+/// No rule tells x from y, so a floor with both changed round has the same verdict, and its panels the
+/// same thicknesses.
+#[test]
+fn floors_transposed() {
+    let mut numbers = Numbers(1);
+    let mut seen = BTreeSet::new();
+    for _ in 0..400 {
+        let floor = numbers.floor();
+        let (bytes, across) = (floor.bytes(), transposed(&floor).bytes());
+        let (refused, verdict) = judge(&bytes);
+        assert_eq!(refused, 0, "{floor:?}");
+        assert_eq!(judge(&across), (0, verdict), "{floor:?}");
+        for x in 0..=floor.x_spans.len() as u128 {
+            for y in 0..=floor.y_spans.len() as u128 {
+                assert_eq!(panel(&bytes, x, y), panel(&across, y, x), "{floor:?}");
+            }
+        }
+        for limit in [1, 2, 4, 8, 16, 32, 64] {
+            seen.insert((limit, verdict & limit != 0));
+        }
+    }
+    // Each of the seven, broken and not.
+    assert_eq!(seen.len(), 14);
+}

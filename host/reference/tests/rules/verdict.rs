@@ -1,0 +1,406 @@
+//! "The verdict": each limit alone broken and, "equality always passes", just not.
+
+use crate::hand_made::{self, ONE_BAY, THIN, TWO_BY_ONE};
+use reference::builder::{Floor, NO_BEAM};
+use reference::cases;
+use reference::floor_file::refusal;
+use reference::verdict::{judge, too_unlike};
+
+/// Bays of 6,000 and columns of 400 without beams. Its outer panels ask for 5600/30 = 186.7 of its
+/// slab of 200, so from 3 by 3 bays on nothing is broken.
+pub fn clear(nx: usize, ny: usize) -> Floor {
+    Floor {
+        cx: 400,
+        cy: 400,
+        x_spans: vec![6_000; nx],
+        y_spans: vec![6_000; ny],
+        ..Floor::good(nx, ny)
+    }
+}
+
+/// The floor with x and y changed round.
+pub fn transposed(floor: &Floor) -> Floor {
+    let (nx, ny) = (floor.x_spans.len(), floor.y_spans.len());
+    let mut offsets = Vec::new();
+    for i in 0..=nx {
+        for j in 0..=ny {
+            let (along_x, along_y) = floor.offsets[j * (nx + 1) + i];
+            offsets.push((along_y, along_x));
+        }
+    }
+    Floor {
+        cx: floor.cy,
+        cy: floor.cx,
+        // West and east, the lower two digits, for south and north.
+        sides: floor.sides / 16 + floor.sides % 16 * 16,
+        x_spans: floor.y_spans.clone(),
+        y_spans: floor.x_spans.clone(),
+        x_lines: floor.y_lines.clone(),
+        y_lines: floor.x_lines.clone(),
+        offsets,
+        ..floor.clone()
+    }
+}
+
+/// No limit tells x from y, so each holds both ways round.
+fn assert_verdict(floor: &Floor, expected: u128) {
+    assert_eq!(judge(&floor.bytes()), (0, expected), "{floor:?}");
+    let transposed = transposed(floor);
+    assert_eq!(judge(&transposed.bytes()), (0, expected), "{transposed:?}");
+}
+
+/// "prints only `0 1`", then the two other typed floors. The thickness breaks both: 4,000 less 200
+/// asks for 3800·1.1/45 = 92.9 of 90, 7,000 less 350 for 6650/36 = 184.7 of 180.
+#[test]
+fn typed_floors() {
+    assert_eq!(judge(&hand_made::floor(ONE_BAY)), (0, 1));
+    assert_eq!(judge(&hand_made::floor(THIN)), (0, 1 + 64));
+    assert_eq!(judge(&hand_made::floor(TWO_BY_ONE)), (0, 1 + 64));
+}
+
+/// "nx or ny below 3."
+#[test]
+fn limit_1() {
+    for (nx, ny, expected) in [
+        (1, 1, 1),
+        (1, 3, 1),
+        (2, 2, 1),
+        (2, 3, 1),
+        (2, 12, 1),
+        (3, 3, 0),
+        (3, 4, 0),
+        (12, 12, 0),
+    ] {
+        assert_verdict(&clear(nx, ny), expected);
+    }
+}
+
+/// "in a panel, longer span > 2·shorter." Each panel in turn is the only one of its length.
+#[test]
+fn limit_2() {
+    for i in 0..4 {
+        for j in 0..3 {
+            let mut floor = clear(4, 3);
+            floor.y_spans = vec![3_020; 3];
+            floor.y_spans[j] = 3_000;
+            assert_verdict(&floor, 0);
+            floor.x_spans[i] = 6_020;
+            assert_verdict(&floor, 2);
+            floor.y_spans[j] = 3_020;
+            assert_verdict(&floor, 0);
+        }
+    }
+}
+
+/// "for neighbouring spans in a direction, 3(longer − shorter) > longer."
+/// "Neighbours 6,000 and 4,000 pass, 3,980 breaks." Each two neighbours in turn are the only ones to
+/// differ so much: next to 5,000 both pass.
+#[test]
+fn limit_4() {
+    for low in 0..4 {
+        for (longer, shorter) in [(low, low + 1), (low + 1, low)] {
+            let mut floor = clear(5, 3);
+            floor.x_spans = vec![5_000; 5];
+            floor.x_spans[longer] = 6_000;
+            floor.x_spans[shorter] = 4_000;
+            assert_verdict(&floor, 0);
+            floor.x_spans[shorter] = 3_980;
+            assert_verdict(&floor, 4);
+        }
+    }
+}
+
+#[test]
+fn limit_4_is_for_neighbours_in_a_direction() {
+    let mut floor = clear(3, 3);
+    floor.x_spans = vec![6_000, 5_000, 3_980];
+    assert_verdict(&floor, 0);
+    let mut floor = clear(3, 3);
+    floor.y_spans = vec![3_980; 3];
+    assert_verdict(&floor, 0);
+}
+
+/// "Offset 600 on 6,000 passes, 601 breaks", at every column, and 500 on the 5,000 across.
+#[test]
+fn limit_8() {
+    let mut floor = clear(3, 4);
+    floor.y_spans = vec![5_000; 4];
+    floor.offsets = vec![(600, 500); 20];
+    assert_verdict(&floor, 0);
+    for column in 0..20 {
+        let mut broken = floor.clone();
+        broken.offsets[column] = (601, 0);
+        assert_verdict(&broken, 8);
+        broken.offsets[column] = (0, 501);
+        assert_verdict(&broken, 8);
+    }
+}
+
+/// "ten times an offset exceeds a span adjoining that column in its direction": inside the shorter of
+/// two decides, be it the higher one as here along x or the lower one as along y.
+#[test]
+fn limit_8_looks_at_every_adjoining_span() {
+    let mut floor = clear(3, 4);
+    floor.x_spans = vec![6_000, 5_000, 4_000];
+    floor.y_spans = vec![4_000, 4_800, 5_400, 6_000];
+    let along_x = [600, 500, 400, 400];
+    let along_y = [400, 400, 480, 540, 600];
+    for j in 0..5 {
+        for i in 0..4 {
+            floor.offsets[j * 4 + i] = (along_x[i], along_y[j]);
+        }
+    }
+    assert_verdict(&floor, 0);
+    for column in 0..20 {
+        let mut broken = floor.clone();
+        broken.offsets[column].0 += 1;
+        assert_verdict(&broken, 8);
+        let mut broken = floor.clone();
+        broken.offsets[column].1 += 1;
+        assert_verdict(&broken, 8);
+    }
+}
+
+/// "L > 2D." "L = 2D passes."
+#[test]
+fn limit_16() {
+    for (dead, live, expected) in [
+        (5_000, 0, 0),
+        (5_000, 9_999, 0),
+        (5_000, 10_000, 0),
+        (5_000, 10_001, 16),
+        (1_000, 2_000, 0),
+        (1_000, 2_001, 16),
+        (25_000, 50_000, 0),
+        (24_999, 50_000, 16),
+    ] {
+        let mut floor = clear(3, 3);
+        (floor.dead, floor.live) = (dead, live);
+        assert_verdict(&floor, expected);
+    }
+}
+
+#[test]
+fn five_times_as_stiff_passes() {
+    for (p, q, expected) in [
+        (1, 1, false),
+        (5, 1, false),
+        (6, 1, true),
+        (1_000_000_000_000, 200_000_000_000, false),
+        (1_000_000_000_001, 200_000_000_000, true),
+        (1_000_000_000_000, 199_999_999_999, true),
+    ] {
+        assert_eq!(too_unlike(p, q), expected, "{p} {q}");
+        assert_eq!(too_unlike(q, p), expected, "{q} {p}");
+    }
+}
+
+/// Beams of depth 400 under a slab of 200, so that h³/t³ = 8, and columns of half a span, so that
+/// k/W is as large outside, 3/(3/4 of the span), as inside: α is 160000·b over the span across.
+fn even(nx: usize, ny: usize, spans: (u128, u128), widths: (u128, u128)) -> Floor {
+    let (x_span, y_span) = spans;
+    let (on_x_lines, on_y_lines) = widths;
+    Floor {
+        cx: x_span / 2,
+        cy: y_span / 2,
+        x_spans: vec![x_span; nx],
+        y_spans: vec![y_span; ny],
+        x_lines: vec![(on_x_lines, 400); ny + 1],
+        y_lines: vec![(on_y_lines, 400); nx + 1],
+        ..Floor::good(nx, ny)
+    }
+}
+
+/// "p > 5q or q > 5p". Over 3,000 α is 160/3 of the width: 41,600 of 780 and 8,320 of 156, so that
+/// p = 5q in every panel, but 41,653 of 781 and 8,266 of 155.
+#[test]
+fn limit_32() {
+    let floor = even(3, 4, (3_000, 3_000), (780, 156));
+    assert_verdict(&floor, 0);
+    for x_line in 0..5 {
+        for (width, expected) in [(779, 0), (781, 32)] {
+            let mut floor = floor.clone();
+            floor.x_lines[x_line].0 = width;
+            assert_verdict(&floor, expected);
+        }
+    }
+    for y_line in 0..4 {
+        for (width, expected) in [(157, 0), (155, 32)] {
+            let mut floor = floor.clone();
+            floor.y_lines[y_line].0 = width;
+            assert_verdict(&floor, expected);
+        }
+    }
+}
+
+/// Each panel in turn is the only one with its α of 8,320 on both y lines and 41,600 or 41,653 on both
+/// x lines. With 1,000 wide the y lines have 53,333, with 400 wide the x lines 21,333; no other panel
+/// has more than 41,653 + 21,333 against 8,320 + 8,320, or 53,333 + 53,333 against 21,333 + 21,333.
+#[test]
+fn limit_32_in_a_single_panel() {
+    for i in 0..4 {
+        for j in 0..4 {
+            for (width, expected) in [(780, 0), (781, 32)] {
+                let mut floor = even(4, 4, (3_000, 3_000), (400, 1_000));
+                for line in [0, 1] {
+                    floor.x_lines[j + line].0 = width;
+                    floor.y_lines[i + line].0 = 156;
+                }
+                assert_verdict(&floor, expected);
+            }
+        }
+    }
+}
+
+/// "p = (sum of α of its two x lines)·Y², q = (sum of α of its two y lines)·X²". The x lines have
+/// 80·180 = 14,400, the y lines 160·600/3 = 32,000: 2·14400·2000² = 115.2·10⁹ is a fifth of
+/// 2·32000·3000² = 576·10⁹.
+#[test]
+fn limit_32_takes_the_spans_across() {
+    for (on_x_lines, on_y_lines, expected) in
+        [(180, 600, 0), (180, 601, 32), (179, 600, 32), (181, 601, 0)]
+    {
+        let floor = even(3, 3, (3_000, 2_000), (on_x_lines, on_y_lines));
+        assert_verdict(&floor, expected);
+    }
+}
+
+/// With cy 300 W of an outer x line is 1,650 and α 240000·572/3300 = 41,600 as inside. Clear spans of
+/// 1,500 and 2,700 in place of the spans would make p more than three times as large.
+#[test]
+fn limit_32_takes_whole_spans() {
+    for (width, expected) in [(572, 0), (573, 32)] {
+        let mut floor = even(3, 3, (3_000, 3_000), (780, 156));
+        floor.cy = 300;
+        floor.x_lines[0].0 = width;
+        floor.x_lines[3].0 = width;
+        assert_verdict(&floor, expected);
+    }
+}
+
+/// "beams everywhere, and in a panel": between edge beams alone the panels halfway along a side have a
+/// beam in one direction only.
+#[test]
+fn limit_32_is_for_beams_everywhere() {
+    let mut floor = clear(3, 3).with_beams("1001", "1001");
+    assert_verdict(&floor, 0);
+    floor.x_lines[0] = (1_000, 1_500);
+    assert_verdict(&floor, 0);
+}
+
+/// "Where the first two coincide the floor counts as beams everywhere." One bay with four beams of
+/// α 160/3 of the width.
+#[test]
+fn limit_32_where_every_line_is_outer() {
+    for (on_x_lines, expected) in [(780, 1), (781, 1 + 32)] {
+        let floor = even(1, 1, (3_000, 3_000), (on_x_lines, 156));
+        assert_verdict(&floor, expected);
+    }
+}
+
+/// "t below some panel's least thickness." 5600/30 = 186.7 without beams, 5600/33 = 169.7 with edge
+/// beams.
+#[test]
+fn limit_64() {
+    for (t, expected) in [(90, 64), (186, 64), (187, 0), (500, 0)] {
+        let mut floor = clear(3, 3);
+        floor.t = t;
+        assert_verdict(&floor, expected);
+    }
+    for (t, expected) in [(169, 64), (170, 0)] {
+        let mut floor = clear(3, 3).with_beams("1001", "1001");
+        floor.t = t;
+        assert_verdict(&floor, expected);
+    }
+}
+
+/// A single long bay, in turn the first, an inner and the last: 7600/30 = 253.3.
+#[test]
+fn limit_64_in_every_bay() {
+    for bay in 0..4 {
+        for (t, expected) in [(253, 64), (254, 0)] {
+            let mut floor = clear(4, 3);
+            floor.t = t;
+            floor.x_spans[bay] = 8_000;
+            assert_verdict(&floor, expected);
+        }
+    }
+}
+
+/// Inner beams so weak that the one inner panel has S ≤ 8000, about 4·500, and asks for 5600/33 =
+/// 169.7; outer beams so stiff that all others have S > 80000 and ask for 5600·1.1/45 = 136.9. These
+/// break 32.
+#[test]
+fn limit_64_by_the_inner_panel_alone() {
+    for (t, expected) in [(169, 32 + 64), (170, 32)] {
+        let mut floor = clear(3, 3);
+        floor.t = t;
+        floor.x_lines = vec![(1_000, 1_500), (150, 171), (150, 171), (1_000, 1_500)];
+        floor.y_lines = floor.x_lines.clone();
+        assert_verdict(&floor, expected);
+    }
+}
+
+/// "A sum of what is broken". 12,000 is more than 2·5,000, and 3·(12,000 − 6,000) more than 12,000;
+/// 10·501 is more than 5,000; α of y lines is thousands of times that of x lines; 11,800 by 4,800 asks
+/// for 223.3.
+#[test]
+fn all_seven_broken() {
+    let mut floor = clear(2, 1);
+    floor.t = 90;
+    (floor.cx, floor.cy) = (200, 200);
+    (floor.dead, floor.live) = (1_000, 2_001);
+    floor.x_spans = vec![12_000, 6_000];
+    floor.y_spans = vec![5_000];
+    floor.x_lines = vec![(150, 91); 2];
+    floor.y_lines = vec![(1_000, 1_500); 3];
+    floor.offsets[5] = (0, 501);
+    assert_verdict(&floor, 127);
+    floor.live = 2_000;
+    assert_verdict(&floor, 127 - 16);
+    floor.offsets[5] = (0, 500);
+    assert_verdict(&floor, 127 - 16 - 8);
+    (floor.x_lines, floor.y_lines) = (vec![NO_BEAM; 2], vec![NO_BEAM; 3]);
+    assert_verdict(&floor, 127 - 16 - 8 - 32);
+    floor.x_spans[1] = 8_000;
+    assert_verdict(&floor, 1 + 2 + 64);
+    floor.t = 500;
+    assert_verdict(&floor, 1 + 2);
+}
+
+/// One floor for each refusal from 1 to 7.
+pub fn refused() -> Vec<(u128, Vec<u8>)> {
+    let mut columns_too_wide = clear(3, 3);
+    columns_too_wide.cy = 610;
+    columns_too_wide.y_spans[2] = 1_200;
+    let floors = vec![
+        (1, hand_made::floor(ONE_BAY)[1..].to_vec()),
+        (2, hand_made::edited(ONE_BAY, 0, 4, 89)),
+        (3, hand_made::edited(ONE_BAY, 0, 2, 2)),
+        (4, hand_made::edited(ONE_BAY, 13, 4, 1)),
+        (5, hand_made::edited(ONE_BAY, 1, 3, 421)),
+        (6, columns_too_wide.bytes()),
+        (7, clear(3, 3).with_beams("1001", "1000").bytes()),
+    ];
+    for (number, floor) in &floors {
+        assert_eq!(refusal(floor), *number);
+    }
+    floors
+}
+
+/// "A refused opening or change gives verdict 255, which no floor earns"
+#[test]
+fn refused_floors_get_255() {
+    for (number, floor) in refused() {
+        assert_eq!(judge(&floor), (number, 255));
+    }
+    assert_eq!(judge(&[]), (1, 255));
+    for case in cases::all() {
+        let (refused, verdict) = judge(&case.floor);
+        assert_eq!(refused, refusal(&case.floor), "{}", case.description);
+        match refused {
+            0 => assert!(verdict <= 127, "{}", case.description),
+            _ => assert_eq!(verdict, 255, "{}", case.description),
+        }
+    }
+}
