@@ -3,7 +3,7 @@
 --     earned                           "255, which no floor earns, so a refusal never reads as clear"
 --     panel-answer, panel-answer-one   a refusal with 0, 10 with 0, or 0 and the panel's least thickness
 -- Assumes nothing.
-use Prim.Native.Nat.{ℕ, _<_}
+use Prim.Native.Nat.{ℕ}
 use mathlib.Core.Bool.{Bool, true, false, false≢true}
 use mathlib.Core.List.{List}
 use mathlib.Core.Logic.{_↔_}
@@ -11,13 +11,12 @@ use mathlib.Core.Path.{_≡_, refl}
 use native.Mathlib.Omega.{arith}
 use Rattle.numbers.specs.Least.{least-one}
 use Rattle.numbers.specs.Tests.{Says}
-use Rattle.numbers.proofs.Tests.{says-lt, says-eq, says-and, by-test}
-use Rattle.plan.specs.declared.ways.Way.the-variants.{X, Y}
-use Rattle.plan.specs.Plan.{bays}
+use Rattle.numbers.proofs.Tests.{says-eq, by-test}
 use Rattle.floor.specs.Refusal.{refusal}
 use Rattle.lines.proofs.Floors.{panel-least}
 use Rattle.verdict.specs.declared.Answer.{Answer}
-use Rattle.verdict.specs.Answers.{answer, judged, Judgement, hasPanel, panelOf, PanelAnswer}
+use Rattle.verdict.specs.Answers.{answer, judged, Judgement, panelOf, PanelAnswer}
+use Rattle.verdict.proofs.AtPlace.{says-panel}
 use Rattle.verdict.proofs.Meaning.{broken, broken-one}
 
 -- what a test says holds or not
@@ -46,22 +45,18 @@ module _ (f : List ℕ) where
   earned = (λ v e. omega (arith, judgement .accepted e .1 .most), λ n. judgement .refused n .1)
 
   module _ (x y : ℕ) where
-    says-panel : Says (hasPanel f x y) ((x < bays f X) × (y < bays f Y))
-    unfolding hasPanel
-    says-panel = says-and (says-lt x (bays f X)) (says-lt y (bays f Y))
-
     pub panel-answer : PanelAnswer f x y (panelOf f x y)
     unfolding panelOf
     panel-answer =
         by-test (PanelAnswer f x y) (says-eq (refusal f) 0)
-        (λ e. by-test (PanelAnswer f x y) says-panel
+        (λ e. by-test (PanelAnswer f x y) (says-panel f x y)
         (λ h. record { refused = λ n. absurd (n e); absent = λ z m. absurd (m h); there = λ z k. (refl, panel-least f x y e (h .0) (h .1)) })
         (λ m. record { refused = λ n. absurd (n e); absent = λ z k. (refl, refl); there = λ z h. absurd (m h) }))
         (λ n. record { refused = λ m. (refl, refl); absent = λ e m. absurd (n e); there = λ e h. absurd (n e) })
 
     pub panel-answer-one : {a b : Answer} → PanelAnswer f x y a → PanelAnswer f x y b → a ≡ b
     panel-answer-one {a} {b} p q =
-        by-says (says-eq (refusal f) 0) (λ e. by-says says-panel
+        by-says (says-eq (refusal f) 0) (λ e. by-says (says-panel f x y)
         (λ h. let l = p .there e h in let r = q .there e h in same-answer a b (cc) (least-one (l .1) (r .1)))
         (λ m. let l = p .absent e m in let r = q .absent e m in same-answer a b (cc) (cc)))
         (λ n. let l = p .refused n in let r = q .refused n in same-answer a b (cc) (cc))

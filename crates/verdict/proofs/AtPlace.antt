@@ -1,8 +1,8 @@
--- What the limits need at a place of an accepted floor.
---     share-in          limit 32's numbers are in range
---     along-most        a row is short
---     at-panel          a place of a limit over panels is a panel
---     at-panel-laid     the same, of the floor's own layout
+-- What the limits and the panel query need at a place of an accepted floor.
+--     share-in                     limit 32's numbers are in range
+--     along-most, place-below      a row is short
+--     at-panel, at-panel-laid      a place of a limit over panels is a panel, with its layout at hand or not
+--     says-panel, in-panel         a panel that was asked for and is there; its bays are few (bays-few)
 -- Assumes nothing.
 use Prim.Native.Nat.{ℕ, _≤_, _<_}
 use mathlib.Core.Bool.{Bool, false, not}
@@ -10,6 +10,7 @@ use mathlib.Core.List.{List}
 use mathlib.Core.Path.{_≡_, sym, subst, _∙_}
 use native.Mathlib.Omega.{arith}
 use borrow.Author.Tests.{not-false}
+use Rattle.numbers.specs.Tests.{Says}
 use Rattle.numbers.proofs.Tests.{says-lt, says-and}
 use Rattle.plan.specs.declared.ways.Way.{Way}
 use Rattle.plan.specs.declared.ways.Way.the-variants.{X, Y}
@@ -47,13 +48,16 @@ module _ {f : List ℕ} {layout : Layout} {ax ay : List ℕ} {limit : Limit} {k 
   pub at-panel-laid : along f limit ≡ bays f X → across f limit ≡ bays f Y → AtPanel f (layoutOf f) ax ay k m
   at-panel-laid a c = subst (λ l. AtPanel f l ax ay k m) (at .in-row .ready .laid) (at-panel a c)
 
--- a panel that was asked for and is there, whose bays are few
-module _ (f : List ℕ) {x y n : ℕ} {there : Bool} where
-  pub in-panel : n ≡ refusal f → n ≡ 0 → there ≡ hasPanel f x y → not there ≡ false → InPanel f x y
-  unfolding hasPanel
-  in-panel e z h t =
-      let at = says-and (says-lt x (bays f X)) (says-lt y (bays f Y)) .holds (sym h ∙ not-false there t) in
-      record { accepted = sym e ∙ z; x-bay = at .0; y-bay = at .1 }
+-- ---- the panel query
+
+pub says-panel : (f : List ℕ) (x y : ℕ) → Says (hasPanel f x y) ((x < bays f X) × (y < bays f Y))
+unfolding hasPanel
+says-panel f x y = says-and (says-lt x (bays f X)) (says-lt y (bays f Y))
+
+pub in-panel : (f : List ℕ) {x y n : ℕ} {there : Bool} → n ≡ refusal f → n ≡ 0 → there ≡ hasPanel f x y → not there ≡ false → InPanel f x y
+in-panel f {x} {y} {n} {there} e z h t =
+    let at = says-panel f x y .holds (sym h ∙ not-false there t) in
+    record { accepted = sym e ∙ z; x-bay = at .0; y-bay = at .1 }
 
 pub bays-few : {f : List ℕ} {x y : ℕ} → InPanel f x y → (x ≤ 12) × (y ≤ 12)
 bays-few {f} p = (omega (arith, fair f (p .accepted) .bays-in X), omega (arith, fair f (p .accepted) .bays-in Y))

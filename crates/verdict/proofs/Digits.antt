@@ -1,9 +1,9 @@
 -- A sum of bits tells each of them: bit n is 0 or n, so the sum is a number in base 2 whose digits are the tests.
---     digits       the seven digits of the sum
+--     digits       the seven digits of the sum, and that it has no more
 --     says-digit   a digit is 1 exactly where what its test says holds
 --     same-digits  a number below 128 is told by its seven digits
 -- Assumes nothing.
-use Prim.Native.Nat.{ℕ, _+_, _*_, _/_, _%_, _≤_, _<_}
+use Prim.Native.Nat.{ℕ, _+_, _*_, _/_, _%_, _≤_}
 use mathlib.Core.Bool.{Bool, true, false}
 use mathlib.Core.Logic.{_↔_}
 use mathlib.Core.Path.{_≡_, refl, sym, _∙_}
@@ -26,12 +26,9 @@ module _ (a b c d e g h : Bool) where
   unfolding sumOf
   sum-is = rw (scaled b 2, scaled c 4, scaled d 8, scaled e 16, scaled g 32, scaled h 64)
 
-  pub sum-most : sumOf a b c d e g h ≤ 127
-  sum-most = omega (arith, sum-is, small a, small b, small c, small d, small e, small g, small h)
-
   pub digits : let s = sumOf a b c d e g h in
       (s % 2 ≡ bit a 1) × (s / 2 % 2 ≡ bit b 1) × (s / 4 % 2 ≡ bit c 1) × (s / 8 % 2 ≡ bit d 1)
-      × (s / 16 % 2 ≡ bit e 1) × (s / 32 % 2 ≡ bit g 1) × (s / 64 % 2 ≡ bit h 1)
+      × (s / 16 % 2 ≡ bit e 1) × (s / 32 % 2 ≡ bit g 1) × (s / 64 % 2 ≡ bit h 1) × (s ≤ 127)
   digits =
       let s = sum-is in
       let pa = small a in
@@ -41,7 +38,7 @@ module _ (a b c d e g h : Bool) where
       let pe = small e in
       let pg = small g in
       let ph = small h in
-      (omega arith, omega arith, omega arith, omega arith, omega arith, omega arith, omega arith)
+      (omega arith, omega arith, omega arith, omega arith, omega arith, omega arith, omega arith, omega arith)
 
 pub says-digit : {b : Bool} {P : Type 0} {n : ℕ} → Says b P → n ≡ bit b 1 → (n ≡ 1) ↔ P
 says-digit {b} {P} {n} s e = (λ h. s .holds (on b (sym e ∙ h)), λ p. e ∙ rw (s .passes p))

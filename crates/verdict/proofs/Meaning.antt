@@ -2,13 +2,13 @@
 --     broken, broken-one     the verdict's digits are the limits, and no other number's are
 --     clear                  it is 0 exactly where no limit is broken
 -- Assumes nothing.
-use Prim.Native.Nat.{ℕ, _+_, _*_, _-_, _/_, _≤_, _<_}
+use Prim.Native.Nat.{ℕ, _+_, _*_, _-_, _/_, _<_}
 use mathlib.Core.Bool.{Bool, _||_}
 use mathlib.Core.List.{List}
 use mathlib.Core.Logic.{_⊎_, _↔_, inl, inr}
 use mathlib.Core.Path.{_≡_, refl, sym, subst}
 use native.Mathlib.Omega.{arith}
-use Rattle.numbers.specs.Tests.{Some, Says}
+use Rattle.numbers.specs.Tests.{Says}
 use Rattle.numbers.proofs.Tests.{says-lt, says-or, says-and, says-as, says-some}
 use Rattle.plan.specs.declared.ways.Way.{Way}
 use Rattle.plan.specs.declared.ways.Way.the-variants.{X, Y}
@@ -16,8 +16,8 @@ use Rattle.plan.specs.Plan.{bays, span, lastLine}
 use Rattle.floor.specs.Refusal.{refusal}
 use Rattle.lines.proofs.Meaning.{says-everywhere}
 use Rattle.verdict.specs.Limits.{somePair, somePanel, few, slenderPanel, uneven, offsetAt, astrayAt, astray, heavy, unequalPanel, unbalanced, thinPanel, verdict}
-use Rattle.verdict.specs.Meaning.{SomePanel, Few, Slender, UnevenAlong, AstrayAlong, Heavy, Unbalanced, Thin, Broken, Clear}
-use Rattle.verdict.proofs.Digits.{digits, sum-most, says-digit, same-digit, same-digits}
+use Rattle.verdict.specs.Meaning.{Few, Slender, UnevenAlong, AstrayAlong, Heavy, Unbalanced, Thin, Broken, Clear}
+use Rattle.verdict.proofs.Digits.{digits, says-digit, same-digit, same-digits}
 
 -- a test along x or along y says it of a direction
 says-way : {p : Way → Bool} {P : Way → Type 0} → ((d : Way) → Says (p d) (P d)) → Says (p X || p Y) ((d : Way) × P d)
@@ -100,7 +100,7 @@ module _ (f : List ℕ) where
         sixteen = says-digit says-heavy (d .4);
         thirtyTwo = says-digit (says-unbalanced e) (d .5);
         sixtyFour = says-digit says-thin (d .6);
-        most = sum-most (few f) (somePanel f (slenderPanel f)) (uneven f X || uneven f Y) (astray f X || astray f Y) (heavy f) (unbalanced f) (somePanel f (thinPanel f));
+        most = d .7;
       }
 
 -- no second number says what is broken

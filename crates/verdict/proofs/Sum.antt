@@ -1,12 +1,17 @@
 -- Each limit looked at place by place is the definition's own, and the sum of all is the verdict.
+--     summed               from what each call answers
+--     beamed, beamless     limit 32, by cases of the layout
 -- Assumes nothing.
 use Prim.Native.Nat.{ℕ}
-use mathlib.Core.Bool.{Bool, _||_}
+use mathlib.Core.Bool.{Bool, true, false, _||_}
 use mathlib.Core.List.{List}
-use mathlib.Core.Path.{_≡_, refl}
+use mathlib.Core.Path.{_≡_, refl, _∙_}
 use Rattle.numbers.specs.Tests.{until}
 use Rattle.plan.specs.declared.ways.Way.{Way}
 use Rattle.plan.specs.declared.ways.Way.the-variants.{X, Y}
+use Rattle.floor.specs.declared.layout.Layout.{Layout}
+use Rattle.floor.specs.Layouts.{layoutOf}
+use Rattle.lines.specs.Lines.{isEverywhere}
 use Rattle.verdict.specs.declared.places.Limit.the-variants.{Slender, Uneven, Astray, Unequal, Thin}
 use Rattle.verdict.specs.Limits.{somePair, somePanel, few, slenderPanel, uneven, astray, heavy, unequalPanel, unbalanced, thinPanel, sumOf, verdict}
 use Rattle.verdict.specs.Places.{breaks, along, across, somewhere}
@@ -25,7 +30,7 @@ module _ (f : List ℕ) where
   unfolding somewhere along across breaks astray
   astray-places d = refl
 
-  pub unequal-places : somewhere f Unequal ≡ somePanel f (unequalPanel f)
+  unequal-places : somewhere f Unequal ≡ somePanel f (unequalPanel f)
   unfolding somewhere along across breaks
   unequal-places = refl
 
@@ -39,3 +44,12 @@ module _ (f : List ℕ) where
   unfolding verdict
   summed pa pb pc₁ pc₂ pc pd₁ pd₂ pd pe pg ph pr =
       cc (slender-places, uneven-places X, uneven-places Y, astray-places X, astray-places Y, thin-places)
+
+  module _ {layout : Layout} {everywhere : Bool} (laid : layout ≡ layoutOf f) (is : everywhere ≡ isEverywhere layout) where
+    pub beamed : {r : Bool} → everywhere ≡ true → r ≡ somewhere f Unequal → r ≡ unbalanced f
+    unfolding unbalanced
+    beamed t e = rw (← laid, ← is, t) (e ∙ unequal-places)
+
+    pub beamless : everywhere ≡ false → everywhere ≡ unbalanced f
+    unfolding unbalanced
+    beamless t = rw (← laid, ← is, t)

@@ -30,7 +30,7 @@ pub record Shares (p q : ℕ) : Type 0 where
   pub p-most : p ≤ 57600000000000000
   pub q-most : q ≤ 57600000000000000
 
--- place k along and m across of those that a limit looks at
+-- row m of those that a limit looks at, and place k of it
 pub record Row (f : List ℕ) (layout : Layout) (ax ay : List ℕ) (limit : Limit) (m : ℕ) : Type 0 where
   pub ready : Ready f layout ax ay
   pub row : m < across f limit
