@@ -18,7 +18,7 @@ fn outer(f: &[u8], d: Way, l: u32) -> bool
     outer_line(plan::last_line(f, d), l)
 }
 
-fn below(f: &[u8], d: Way, l: u32) -> u32
+pub fn below(f: &[u8], d: Way, l: u32) -> u32
     ensures { λ r. ⌜ r ≡ below (now (f .entry)) d l ⌝ }
 {
     if l == 0 {

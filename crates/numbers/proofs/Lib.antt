@@ -3,4 +3,5 @@ pub mod Rounded
 pub mod Integers
 pub mod Tests
 pub mod Records
+pub mod Written
 pub mod Cases

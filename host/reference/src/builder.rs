@@ -45,6 +45,18 @@ impl Floor {
         }
     }
 
+    /// Bays of 6,000 and columns of 400 without beams. Its outer panels ask for 5600/30 = 186.7 of its
+    /// slab of 200, so from 3 by 3 bays on nothing is broken.
+    pub fn clear(nx: usize, ny: usize) -> Floor {
+        Floor {
+            cx: 400,
+            cy: 400,
+            x_spans: vec![6_000; nx],
+            y_spans: vec![6_000; ny],
+            ..Floor::good(nx, ny)
+        }
+    }
+
     /// `x_lines` and `y_lines` have a 1 for each line with a beam and a 0 for each without.
     pub fn with_beams(mut self, x_lines: &str, y_lines: &str) -> Floor {
         assert_eq!(x_lines.len(), self.x_lines.len());
@@ -66,6 +78,30 @@ impl Floor {
             .map(|(k, _)| (3 * k + 1, 500 - 2 * k))
             .collect();
         self
+    }
+
+    /// The floor with x and y changed round.
+    pub fn transposed(&self) -> Floor {
+        let (nx, ny) = (self.x_spans.len(), self.y_spans.len());
+        let mut offsets = Vec::new();
+        for i in 0..=nx {
+            for j in 0..=ny {
+                let (along_x, along_y) = self.offsets[j * (nx + 1) + i];
+                offsets.push((along_y, along_x));
+            }
+        }
+        Floor {
+            cx: self.cy,
+            cy: self.cx,
+            // West and east, the lower two digits, for south and north.
+            sides: self.sides / 16 + self.sides % 16 * 16,
+            x_spans: self.y_spans.clone(),
+            y_spans: self.x_spans.clone(),
+            x_lines: self.y_lines.clone(),
+            y_lines: self.x_lines.clone(),
+            offsets,
+            ..self.clone()
+        }
     }
 
     pub fn bytes(&self) -> Vec<u8> {

@@ -1,5 +1,7 @@
+use reference::garage::garage;
+use reference::sheet::sheet;
 use reference::verdict::judged;
-use reference::{cases, vectors};
+use reference::{cases, runs, vectors};
 use std::io::{Read, Write};
 use std::path::Path;
 use std::process::ExitCode;
@@ -9,7 +11,10 @@ const USAGE: &str = "usage:
   reference vectors DIR   write the vectors to DIR/stdin and DIR/stdout
   reference list          print number, expected line and description of each case
   reference judge         read a floor from standard input; print its refusal and verdict and, where
-                          it is not refused, a line per y bay of its panels' least thicknesses";
+                          it is not refused, a line per y bay of its panels' least thicknesses
+  reference sheet         read a floor from standard input; print what the printing program has to
+  reference runs DIR      write a few short runs of changes to DIR/stdin and DIR/stdout
+  reference garage        write the bytes of the example floor to standard output";
 
 fn write_vectors(folder: &Path) -> io::Result<()> {
     let cases = cases::all();
@@ -22,10 +27,22 @@ fn print_list() -> io::Result<()> {
     io::stdout().write_all(vectors::list(&cases::all()).as_bytes())
 }
 
-fn print_judged() -> io::Result<()> {
+fn write_runs(folder: &Path) -> io::Result<()> {
+    let runs = runs::kept::runs();
+    fs::create_dir_all(folder)?;
+    fs::write(folder.join("stdin"), runs::stdin(&runs))?;
+    fs::write(folder.join("stdout"), runs::stdout(&runs))
+}
+
+/// Reads a floor from standard input and prints the text of it.
+fn print_of_floor(text: fn(&[u8]) -> String) -> io::Result<()> {
     let mut floor = Vec::new();
     io::stdin().read_to_end(&mut floor)?;
-    io::stdout().write_all(judged(&floor).as_bytes())
+    io::stdout().write_all(text(&floor).as_bytes())
+}
+
+fn write_garage() -> io::Result<()> {
+    io::stdout().write_all(&garage().bytes())
 }
 
 fn main() -> ExitCode {
@@ -34,7 +51,10 @@ fn main() -> ExitCode {
     let done = match words[..] {
         ["vectors", folder] => write_vectors(Path::new(folder)),
         ["list"] => print_list(),
-        ["judge"] => print_judged(),
+        ["judge"] => print_of_floor(judged),
+        ["sheet"] => print_of_floor(sheet),
+        ["runs", folder] => write_runs(Path::new(folder)),
+        ["garage"] => write_garage(),
         _ => {
             eprintln!("{USAGE}");
             return ExitCode::from(2);

@@ -1,16 +1,24 @@
 //! What 01 says, written down by hand and held against the code.
 
 mod changes;
+mod described;
+mod draw;
 mod floors;
 mod fraction;
 mod hand_made;
+mod held;
 mod layouts;
 mod moments;
+mod named;
+mod opening;
 mod order;
 mod panel;
 mod ranges;
+mod runs;
+mod sheet;
 mod stiffness;
 mod strips;
+mod table;
 mod thickness;
 mod vectors;
 mod verdict;

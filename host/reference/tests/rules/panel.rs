@@ -1,7 +1,7 @@
 //! The panel query, and least thicknesses as the command prints them.
 
 use crate::hand_made::{self, ONE_BAY, THIN, TWO_BY_ONE};
-use crate::verdict::{clear, refused, transposed};
+use crate::verdict::refused;
 use reference::builder::Floor;
 use reference::panel::{adjoining, panel, x_line_alphas, y_line_alphas};
 use reference::stiffness::Adjoining;
@@ -31,7 +31,7 @@ fn what_adjoins_first_inner_and_last_lines() {
 /// y lines (6000 + 400)/2 = 3200 twice.
 #[test]
 fn alphas_by_direction() {
-    let mut floor = clear(1, 2);
+    let mut floor = Floor::clear(1, 2);
     (floor.cx, floor.cy) = (400, 800);
     floor.y_spans = vec![4_000, 5_000];
     floor.x_lines = vec![(200, 400), (450, 400), (290, 400)];
@@ -39,7 +39,7 @@ fn alphas_by_direction() {
     let bytes = floor.bytes();
     assert_eq!(x_line_alphas(&bytes), [10_000, 16_000, 12_000]);
     assert_eq!(y_line_alphas(&bytes), [12_000, 6_037]);
-    let bytes = transposed(&floor).bytes();
+    let bytes = floor.transposed().bytes();
     assert_eq!(x_line_alphas(&bytes), [12_000, 6_037]);
     assert_eq!(y_line_alphas(&bytes), [10_000, 16_000, 12_000]);
 }
@@ -78,7 +78,7 @@ fn with_beams() -> Floor {
         t: 125,
         x_lines: vec![(160, 250), (150, 250), (320, 250)],
         y_lines: vec![(480, 250), (600, 250), (800, 250)],
-        ..clear(2, 2)
+        ..Floor::clear(2, 2)
     }
 }
 
@@ -96,12 +96,12 @@ const WITH_BEAMS_TRANSPOSED: &str = "0 65
 fn floors_judged() {
     assert_eq!(judged(&without_beams().bytes()), WITHOUT_BEAMS);
     assert_eq!(
-        judged(&transposed(&without_beams()).bytes()),
+        judged(&without_beams().transposed().bytes()),
         WITHOUT_BEAMS_TRANSPOSED
     );
     assert_eq!(judged(&with_beams().bytes()), WITH_BEAMS);
     assert_eq!(
-        judged(&transposed(&with_beams()).bytes()),
+        judged(&with_beams().transposed().bytes()),
         WITH_BEAMS_TRANSPOSED
     );
 }
@@ -118,7 +118,7 @@ fn typed_floors_judged() {
 #[test]
 fn grades() {
     for (fy, outer, inner) in [(280, 170, 156), (420, 187, 170), (520, 200, 181)] {
-        let mut floor = clear(3, 3);
+        let mut floor = Floor::clear(3, 3);
         floor.fy = fy;
         assert_eq!(panel(&floor.bytes(), 0, 1), (0, outer));
         assert_eq!(panel(&floor.bytes(), 1, 1), (0, inner));
@@ -156,7 +156,7 @@ fn no_such_panel() {
     assert_eq!(panel(&one_bay, 0, 0), (0, 125));
     assert_eq!(panel(&one_bay, 1, 0), (10, 0));
     assert_eq!(panel(&one_bay, 0, 1), (10, 0));
-    let largest = clear(12, 12).bytes();
+    let largest = Floor::clear(12, 12).bytes();
     assert_eq!(panel(&largest, 11, 11), (0, 187));
     assert_eq!(panel(&largest, 10, 10), (0, 170));
     assert_eq!(panel(&largest, 12, 11), (10, 0));
@@ -267,7 +267,7 @@ fn floors_transposed() {
     let mut seen = BTreeSet::new();
     for _ in 0..400 {
         let floor = numbers.floor();
-        let (bytes, across) = (floor.bytes(), transposed(&floor).bytes());
+        let (bytes, across) = (floor.bytes(), floor.transposed().bytes());
         let (refused, verdict) = judge(&bytes);
         assert_eq!(refused, 0, "{floor:?}");
         assert_eq!(judge(&across), (0, verdict), "{floor:?}");

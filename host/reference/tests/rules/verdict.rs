@@ -6,46 +6,10 @@ use reference::cases;
 use reference::floor_file::refusal;
 use reference::verdict::{judge, too_unlike};
 
-/// Bays of 6,000 and columns of 400 without beams. Its outer panels ask for 5600/30 = 186.7 of its
-/// slab of 200, so from 3 by 3 bays on nothing is broken.
-pub fn clear(nx: usize, ny: usize) -> Floor {
-    Floor {
-        cx: 400,
-        cy: 400,
-        x_spans: vec![6_000; nx],
-        y_spans: vec![6_000; ny],
-        ..Floor::good(nx, ny)
-    }
-}
-
-/// The floor with x and y changed round.
-pub fn transposed(floor: &Floor) -> Floor {
-    let (nx, ny) = (floor.x_spans.len(), floor.y_spans.len());
-    let mut offsets = Vec::new();
-    for i in 0..=nx {
-        for j in 0..=ny {
-            let (along_x, along_y) = floor.offsets[j * (nx + 1) + i];
-            offsets.push((along_y, along_x));
-        }
-    }
-    Floor {
-        cx: floor.cy,
-        cy: floor.cx,
-        // West and east, the lower two digits, for south and north.
-        sides: floor.sides / 16 + floor.sides % 16 * 16,
-        x_spans: floor.y_spans.clone(),
-        y_spans: floor.x_spans.clone(),
-        x_lines: floor.y_lines.clone(),
-        y_lines: floor.x_lines.clone(),
-        offsets,
-        ..floor.clone()
-    }
-}
-
 /// No limit tells x from y, so each holds both ways round.
 fn assert_verdict(floor: &Floor, expected: u128) {
     assert_eq!(judge(&floor.bytes()), (0, expected), "{floor:?}");
-    let transposed = transposed(floor);
+    let transposed = floor.transposed();
     assert_eq!(judge(&transposed.bytes()), (0, expected), "{transposed:?}");
 }
 
@@ -71,7 +35,7 @@ fn limit_1() {
         (3, 4, 0),
         (12, 12, 0),
     ] {
-        assert_verdict(&clear(nx, ny), expected);
+        assert_verdict(&Floor::clear(nx, ny), expected);
     }
 }
 
@@ -80,7 +44,7 @@ fn limit_1() {
 fn limit_2() {
     for i in 0..4 {
         for j in 0..3 {
-            let mut floor = clear(4, 3);
+            let mut floor = Floor::clear(4, 3);
             floor.y_spans = vec![3_020; 3];
             floor.y_spans[j] = 3_000;
             assert_verdict(&floor, 0);
@@ -99,7 +63,7 @@ fn limit_2() {
 fn limit_4() {
     for low in 0..4 {
         for (longer, shorter) in [(low, low + 1), (low + 1, low)] {
-            let mut floor = clear(5, 3);
+            let mut floor = Floor::clear(5, 3);
             floor.x_spans = vec![5_000; 5];
             floor.x_spans[longer] = 6_000;
             floor.x_spans[shorter] = 4_000;
@@ -112,10 +76,10 @@ fn limit_4() {
 
 #[test]
 fn limit_4_is_for_neighbours_in_a_direction() {
-    let mut floor = clear(3, 3);
+    let mut floor = Floor::clear(3, 3);
     floor.x_spans = vec![6_000, 5_000, 3_980];
     assert_verdict(&floor, 0);
-    let mut floor = clear(3, 3);
+    let mut floor = Floor::clear(3, 3);
     floor.y_spans = vec![3_980; 3];
     assert_verdict(&floor, 0);
 }
@@ -123,7 +87,7 @@ fn limit_4_is_for_neighbours_in_a_direction() {
 /// "Offset 600 on 6,000 passes, 601 breaks", at every column, and 500 on the 5,000 across.
 #[test]
 fn limit_8() {
-    let mut floor = clear(3, 4);
+    let mut floor = Floor::clear(3, 4);
     floor.y_spans = vec![5_000; 4];
     floor.offsets = vec![(600, 500); 20];
     assert_verdict(&floor, 0);
@@ -140,7 +104,7 @@ fn limit_8() {
 /// two decides, be it the higher one as here along x or the lower one as along y.
 #[test]
 fn limit_8_looks_at_every_adjoining_span() {
-    let mut floor = clear(3, 4);
+    let mut floor = Floor::clear(3, 4);
     floor.x_spans = vec![6_000, 5_000, 4_000];
     floor.y_spans = vec![4_000, 4_800, 5_400, 6_000];
     let along_x = [600, 500, 400, 400];
@@ -174,7 +138,7 @@ fn limit_16() {
         (25_000, 50_000, 0),
         (24_999, 50_000, 16),
     ] {
-        let mut floor = clear(3, 3);
+        let mut floor = Floor::clear(3, 3);
         (floor.dead, floor.live) = (dead, live);
         assert_verdict(&floor, expected);
     }
@@ -282,7 +246,7 @@ fn limit_32_takes_whole_spans() {
 /// beam in one direction only.
 #[test]
 fn limit_32_is_for_beams_everywhere() {
-    let mut floor = clear(3, 3).with_beams("1001", "1001");
+    let mut floor = Floor::clear(3, 3).with_beams("1001", "1001");
     assert_verdict(&floor, 0);
     floor.x_lines[0] = (1_000, 1_500);
     assert_verdict(&floor, 0);
@@ -303,12 +267,12 @@ fn limit_32_where_every_line_is_outer() {
 #[test]
 fn limit_64() {
     for (t, expected) in [(90, 64), (186, 64), (187, 0), (500, 0)] {
-        let mut floor = clear(3, 3);
+        let mut floor = Floor::clear(3, 3);
         floor.t = t;
         assert_verdict(&floor, expected);
     }
     for (t, expected) in [(169, 64), (170, 0)] {
-        let mut floor = clear(3, 3).with_beams("1001", "1001");
+        let mut floor = Floor::clear(3, 3).with_beams("1001", "1001");
         floor.t = t;
         assert_verdict(&floor, expected);
     }
@@ -319,7 +283,7 @@ fn limit_64() {
 fn limit_64_in_every_bay() {
     for bay in 0..4 {
         for (t, expected) in [(253, 64), (254, 0)] {
-            let mut floor = clear(4, 3);
+            let mut floor = Floor::clear(4, 3);
             floor.t = t;
             floor.x_spans[bay] = 8_000;
             assert_verdict(&floor, expected);
@@ -333,7 +297,7 @@ fn limit_64_in_every_bay() {
 #[test]
 fn limit_64_by_the_inner_panel_alone() {
     for (t, expected) in [(169, 32 + 64), (170, 32)] {
-        let mut floor = clear(3, 3);
+        let mut floor = Floor::clear(3, 3);
         floor.t = t;
         floor.x_lines = vec![(1_000, 1_500), (150, 171), (150, 171), (1_000, 1_500)];
         floor.y_lines = floor.x_lines.clone();
@@ -346,7 +310,7 @@ fn limit_64_by_the_inner_panel_alone() {
 /// for 223.3.
 #[test]
 fn all_seven_broken() {
-    let mut floor = clear(2, 1);
+    let mut floor = Floor::clear(2, 1);
     floor.t = 90;
     (floor.cx, floor.cy) = (200, 200);
     (floor.dead, floor.live) = (1_000, 2_001);
@@ -370,7 +334,7 @@ fn all_seven_broken() {
 
 /// One floor for each refusal from 1 to 7.
 pub fn refused() -> Vec<(u128, Vec<u8>)> {
-    let mut columns_too_wide = clear(3, 3);
+    let mut columns_too_wide = Floor::clear(3, 3);
     columns_too_wide.cy = 610;
     columns_too_wide.y_spans[2] = 1_200;
     let floors = vec![
@@ -380,7 +344,7 @@ pub fn refused() -> Vec<(u128, Vec<u8>)> {
         (4, hand_made::edited(ONE_BAY, 13, 4, 1)),
         (5, hand_made::edited(ONE_BAY, 1, 3, 421)),
         (6, columns_too_wide.bytes()),
-        (7, clear(3, 3).with_beams("1001", "1000").bytes()),
+        (7, Floor::clear(3, 3).with_beams("1001", "1000").bytes()),
     ];
     for (number, floor) in &floors {
         assert_eq!(refusal(floor), *number);

@@ -1,0 +1,90 @@
+-- The lines of a frame and the frames of both directions: each line's named records are a stretch of it (crate tables), and stretches that
+-- follow one another are one.
+-- Assumes nothing.
+use Prim.Native.Nat.{ℕ, _+_, _-_, _*_, _≤_, _<_}
+use mathlib.Core.List.{List}
+use mathlib.Core.Path.{_≡_, refl, sym, ap, _∙_}
+use native.Mathlib.Nat.{suc-mul, zero-add, zero-mul}
+use native.Mathlib.Numerals.{add-one}
+use native.Mathlib.Omega.{arith}
+use lib.ListN.{length}
+use Rattle.numbers.specs.Records.{writtenFrom, every}
+use Rattle.numbers.proofs.Written.{from-none, from-run, length-from}
+use Rattle.records.proofs.Places.{count-most}
+use Rattle.plan.specs.declared.ways.Way.{Way}
+use Rattle.plan.specs.declared.ways.Way.the-variants.{X, Y}
+use Rattle.plan.specs.Plan.{bays, many, lastLine}
+use Rattle.floor.proofs.Fair.{fair}
+use Rattle.spans.specs.declared.view.SlabView.{SlabView}
+use Rattle.tables.specs.declared.named.Spans.{Spans}
+use Rattle.tables.specs.Width.{recordWidth}
+use Rattle.tables.specs.Places.{firstOf, lineFirst, recordCount}
+use Rattle.tables.specs.Named.{namedSpans, namedAt, Naming}
+use Rattle.tables.proofs.Numbered.{bays-most, lines-sum-x, lines-sum-y, line-below}
+use Rattle.tables.proofs.Meaning.{to-most, from-most, line-written}
+use Rattle.frames.specs.Held.{Standing, Slabbed, AtLine, AtSpans}
+use Rattle.frames.specs.Table.{recordAt, renamed}
+
+-- ---- one line
+
+module _ (f t : List ℕ) (slab : SlabView) (kind index : ℕ) (d : Way) (l : ℕ) (h : AtLine f t slab kind index d l) where
+  some-span : 1 ≤ bays f d
+  some-span = fair f (h .floor .standing .accepted) .bays-in d .0
+
+  pub naming : {n : ℕ} → n ≡ bays f d → Naming n index
+  naming e =
+      record {
+        least = rw e some-span;
+        index-most = omega (arith, h .floor .asked .there, count-most (bays f X) (bays f Y) (record { x = bays-most f X; y = bays-most f Y }) kind);
+      }
+
+  module _ {n : ℕ} {spans : Spans} (e : n ≡ bays f d) (q : spans ≡ namedSpans kind index d l n) where
+    pub at-spans : AtSpans f t slab d l spans
+    at-spans =
+        record {
+          standing = h .floor .standing;
+          slab-is = h .floor .slab-is;
+          line = h .line;
+          order = rw q (from-most kind index d l n);
+          most = rw (q, e) (to-most f kind index d l (h .floor .asked .there) some-span);
+        }
+
+    pub line-is : writtenFrom recordWidth every (recordAt f) (lineFirst f d l + spans .from) (spans .to - spans .from) t
+        ≡ writtenFrom recordWidth (namedAt f kind index) (recordAt f) (lineFirst f d l) (bays f d) t
+    line-is = rw (q, e) (sym (line-written f kind index recordWidth (recordAt f) d l t (h .line) (h .floor .asked .there) some-span))
+
+-- ---- the lines of a direction
+
+module _ (f t : List ℕ) (slab : SlabView) (kind index : ℕ) (d : Way) (h : Slabbed f t slab kind index) where
+  pub at-line : (u : List ℕ) {l : ℕ} → length u ≡ length t → l ≤ lastLine f d → AtLine f u slab kind index d l
+  at-line u e q =
+      record {
+        floor =
+            record {
+              standing = record { accepted = h .standing .accepted; clear = h .standing .clear; table = record { room = omega (arith, h .standing .table .room) } };
+              slab-is = h .slab-is;
+              asked = h .asked;
+            };
+        line = q;
+      }
+
+  pub no-line : t ≡ writtenFrom recordWidth (namedAt f kind index) (recordAt f) (firstOf f d) (0 * bays f d) t
+  no-line = rw (zero-mul (bays f d)) (sym (from-none recordWidth (namedAt f kind index) (recordAt f) (firstOf f d) t))
+
+  pub next-line : (l : ℕ) {u : List ℕ} → u ≡ writtenFrom recordWidth (namedAt f kind index) (recordAt f) (firstOf f d) (l * bays f d) t
+      → writtenFrom recordWidth (namedAt f kind index) (recordAt f) (lineFirst f d l) (bays f d) u
+      ≡ writtenFrom recordWidth (namedAt f kind index) (recordAt f) (firstOf f d) ((l + 1) * bays f d) t
+  next-line l e =
+      let n : (l + 1) * bays f d ≡ l * bays f d + bays f d = rw add-one (suc-mul l (bays f d)) in
+      rw (e, n) (from-run recordWidth (namedAt f kind index) (recordAt f) (firstOf f d) (l * bays f d) (bays f d) t)
+
+-- ---- both directions
+
+pub both-ways : (f : List ℕ) (kind index : ℕ) (t : List ℕ) {u v : List ℕ}
+    → u ≡ writtenFrom recordWidth (namedAt f kind index) (recordAt f) (firstOf f X) ((lastLine f X + 1) * bays f X) t
+    → v ≡ writtenFrom recordWidth (namedAt f kind index) (recordAt f) (firstOf f Y) ((lastLine f Y + 1) * bays f Y) u
+    → v ≡ renamed f kind index t
+unfolding renamed
+both-ways f kind index t e q =
+    q ∙ rw e (rw (zero-add (firstOf f Y)) at (from-run recordWidth (namedAt f kind index) (recordAt f) 0 (firstOf f Y) ((lastLine f Y + 1) * bays f Y) t))
+    ∙ ap (λ n. writtenFrom recordWidth (namedAt f kind index) (recordAt f) 0 n t) (lines-sum-y f)

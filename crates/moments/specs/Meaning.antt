@@ -1,0 +1,78 @@
+-- What opening and a change answer and leave, in the words of 01: each number's cause, and the table number by number.
+-- That the equations of `Opening` and `Changing` say these statements, and that no second answer or table does, is proved in proofs/Meaning.
+-- Assumes nothing.
+use Prim.Native.Nat.{ℕ, _+_, _*_, _≤_, _<_}
+use mathlib.Core.List.{List}
+use mathlib.Core.Path.{_≡_}
+use lib.ListN.{length, getD}
+use Rattle.floor.specs.Meaning.{Given}
+use Rattle.changes.specs.Change.{changeKind, changeIndex, changed}
+use Rattle.changes.specs.Meaning.{GivenChange}
+use Rattle.verdict.specs.declared.Answer.{Answer}
+use Rattle.verdict.specs.Limits.{verdict}
+use Rattle.verdict.specs.Meaning.{Broken}
+use Rattle.spans.specs.Sixteen.{sixteen}
+use Rattle.tables.specs.Width.{recordWidth}
+use Rattle.tables.specs.Places.{Place, Inside, numberOf, recordCount}
+use Rattle.tables.specs.Meaning.{Names}
+use Rattle.frames.specs.Table.{viewIn}
+
+-- 8: "lent table shorter than 16·((ny+1)nx+(nx+1)ny) numbers", tried after numbers whose causes are G, of a slice of m numbers
+pub data ThenRoom (G : ℕ → Type 0) (f : List ℕ) (m : ℕ) : ℕ → Type 0 where
+  earlier : {n : ℕ} → ¬ (n ≡ 0) → G n → ThenRoom G f m n
+  eight : G 0 → m < recordCount f * recordWidth → ThenRoom G f m 8
+  success : G 0 → recordCount f * recordWidth ≤ m → ThenRoom G f m 0
+
+-- "Opening a floor tries 1 to 8"
+abbrev pub GivenOpening : List ℕ → ℕ → ℕ → Type 0
+GivenOpening f m = ThenRoom (λ n. Given n f) f m
+
+-- "A change tries 1 to 7 on the held floor, 9, then 5 to 7 on the changed floor, then 8"
+abbrev pub GivenChanging : List ℕ → ℕ → List ℕ → ℕ → Type 0
+GivenChanging f m c = ThenRoom (λ n. GivenChange n f c) f m
+
+-- number n of the record of span p
+abbrev pub numberIn : List ℕ → List ℕ → Place → ℕ → ℕ
+numberIn f t p n = getD t (numberOf f p * recordWidth + n) 0
+
+-- its right value
+abbrev pub rightNumber : List ℕ → Place → ℕ → ℕ
+rightNumber f p n = getD (sixteen (viewIn f p)) n 0
+
+-- the table of f in the slice t as lent: "Verdict not 0: all of them are 0. Numbers past the table stay"
+pub record TableOf (f t after : List ℕ) : Type 0 where
+  pub same-length : length after ≡ length t
+  pub past : (i : ℕ) → recordCount f * recordWidth ≤ i → getD after i 0 ≡ getD t i 0
+  pub stands : verdict f ≡ 0 → (p : Place) → Inside f p → (n : ℕ) → n < recordWidth → numberIn f after p n ≡ rightNumber f p n
+  pub broken : ¬ (verdict f ≡ 0) → (p : Place) → Inside f p → (n : ℕ) → n < recordWidth → numberIn f after p n ≡ 0
+
+-- of a table t that is lent, right or wrong: "the records named here get their right value and every other keeps what it held, right or not"
+pub record NamedOf (f : List ℕ) (kind index : ℕ) (t after : List ℕ) : Type 0 where
+  pub same-length : length after ≡ length t
+  pub past : (i : ℕ) → recordCount f * recordWidth ≤ i → getD after i 0 ≡ getD t i 0
+  pub named : (p : Place) → Inside f p → Names f kind index p → (n : ℕ) → n < recordWidth → numberIn f after p n ≡ rightNumber f p n
+  pub others : (p : Place) → Inside f p → ¬ Names f kind index p → (n : ℕ) → n < recordWidth → numberIn f after p n ≡ numberIn f t p n
+
+-- "A refused opening or change gives verdict 255"; else the verdict names exactly what is broken in floor g
+pub record Judged (g : List ℕ) (number : ℕ) (a : Answer) : Type 0 where
+  pub refusal : a .refusal ≡ number
+  pub refused : ¬ (number ≡ 0) → a .value ≡ 255
+  pub verdict : number ≡ 0 → Broken g (a .value)
+
+-- opening: "Refusals write nothing"
+pub record OpeningSays (f t : List ℕ) (a : Answer) (after : List ℕ) : Type 0 where
+  pub number : ℕ
+  pub given : GivenOpening f (length t) number
+  pub answer : Judged f number a
+  pub refused : ¬ (number ≡ 0) → after ≡ t
+  pub filled : number ≡ 0 → TableOf f t after
+
+-- a change: "If the verdict before or after is not 0, the whole table is written. Otherwise the records named here"
+pub record ChangeSays (f t c : List ℕ) (a : Answer) (floor-after table-after : List ℕ) : Type 0 where
+  pub number : ℕ
+  pub given : GivenChanging f (length t) c number
+  pub answer : Judged (changed f c) number a
+  pub refused : ¬ (number ≡ 0) → (floor-after ≡ f) × (table-after ≡ t)
+  pub taken : number ≡ 0 → floor-after ≡ changed f c
+  pub whole : number ≡ 0 → ¬ ((verdict f ≡ 0) × (verdict (changed f c) ≡ 0)) → TableOf (changed f c) t table-after
+  pub some : number ≡ 0 → verdict f ≡ 0 → verdict (changed f c) ≡ 0 → NamedOf (changed f c) (changeKind c) (changeIndex c) t table-after

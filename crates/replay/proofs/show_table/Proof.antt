@@ -1,0 +1,33 @@
+-- The index rises to the length.
+-- Assumes nothing.
+use borrow.Author.Needs.{needs}
+use lib.ListN.{length, length-take}
+use native.Mathlib.Omega.{arith}
+use mathlib.Core.Path.{_≡_}
+use Prim.Native.Nat.{_-_, _≤_}
+use Rattle.replay.proofs.show_table.Statement.{statement}
+use Rattle.replay.proofs.show_table.Tie as tie
+
+abbrev Inv-loop : tie.InvT-loop
+Inv-loop table i₀ i = i ≤ length table
+
+abbrev μ-loop : tie.MeasureT-loop
+μ-loop table i₀ i = length table - i
+
+pub show-table-spec : {M : Type 1} → statement M
+show-table-spec =
+    tie.close
+    (tie.spec
+    Inv-loop
+    μ-loop
+    (λ c. search needs)
+    (λ c κs. search needs)
+    (λ c. search needs)
+    (λ c. search needs)
+    (λ c. omega (arith, c .shared-slice-known2 .given (c .before .before .before .loop .i)))
+    (λ c κs. search needs)
+    (λ c. search needs)
+    (λ c. search needs)
+    (λ c. search needs)
+    (λ c κs. search needs)
+    (λ c. search needs))

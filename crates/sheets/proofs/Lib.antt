@@ -1,0 +1,4 @@
+pub mod Decimals
+pub mod Texts
+pub mod Writing
+pub mod Figures

@@ -1,0 +1,5 @@
+pub mod Worked
+pub mod Ends
+pub mod Clear
+pub mod Whole
+pub mod Fits

@@ -1,0 +1,115 @@
+-- What a span's formulas ask, and what they come to keep: each range is that of its formula, in the ranges of what it is worked out of.
+--     loaded, stiffened, proportioned    of a span, where its line's numbers are at hand
+--     worked, worked-end                 what its own numbers keep, with the beam across an end
+--     work-is                            what is worked out of a span, formula by formula, are its numbers
+-- Assumes nothing.
+use Prim.Native.Nat.{ℕ, _≤_}
+use mathlib.Core.Path.{_≡_, refl, sym, subst}
+use native.Mathlib.Nat.{le-div-iff-mul-le, div-le-of-le-mul}
+use native.Mathlib.Omega.{arith}
+use Rattle.numbers.proofs.Bounded.{_⊕_, _⊗_, #}
+use Rattle.rules.specs.Moments.{clearLength, staticMoment}
+use Rattle.rules.specs.MomentRanges.{Spanned, Loaded, Stiffened, Proportioned}
+use Rattle.rules.specs.Ratios.{stiffnessRatio, spanRatio}
+use Rattle.rules.proofs.Widths.{transverse-in, frame-in, strip-most}
+use Rattle.rules.proofs.Stiffness.{alpha-most}
+use Rattle.spans.specs.declared.view.EndView.{EndView}
+use Rattle.spans.specs.declared.view.View.{View}
+use Rattle.spans.specs.declared.work.LineWork.{LineWork}
+use Rattle.spans.specs.declared.work.SpanWork.{SpanWork}
+use Rattle.spans.specs.Works.{stripOf, lineWork, spanWork}
+use Rattle.spans.specs.Workable.{WorkableEnd, Workable, WorkableSpan, Worked, WorkedEnd}
+
+clear-most : {l1 column : ℕ} → Spanned l1 column → clearLength l1 column ≤ 12000
+unfolding clearLength
+clear-most s = omega arith
+
+moment-most : {D L W ln : ℕ} → Loaded D L W ln → staticMoment D L W ln ≤ 25056000
+unfolding staticMoment
+moment-most s = omega (arith, (# 12 ⊗ s .dead ⊕ # 16 ⊗ s .live) ⊗ s .width ⊗ (s .clear ⊗ s .clear))
+
+stiffness-most : (α l2 l1 : ℕ) → stiffnessRatio α l2 l1 ≤ 10000
+unfolding stiffnessRatio
+stiffness-most α l2 l1 = omega arith
+
+ratio-in : {l2 l1 : ℕ} → Proportioned l2 l1 → (5000 ≤ spanRatio l2 l1) × (spanRatio l2 l1 ≤ 20000)
+unfolding spanRatio
+ratio-in {l2} {l1} s = (le-div-iff-mul-le {k = l1} (omega arith) .1 (omega arith), div-le-of-le-mul _ (omega arith))
+
+module _ {v : View} {w : LineWork} (h : WorkableSpan v w) where
+  pub loaded : {ln : ℕ} → ln ≤ 12000 → Loaded (v .slab .dead) (v .slab .live) (w .width) ln
+  unfolding lineWork
+  loaded clear =
+      record {
+        dead = h .view .dead;
+        live = h .view .live;
+        width = rw (h .line) (frame-in _ (h .view .line .spans) .most);
+        clear = clear;
+      }
+
+  pub stiffened : Stiffened (w .alpha) (w .l2) (v .l1)
+  unfolding lineWork
+  stiffened =
+      record {
+        stiffness = rw (h .line) (alpha-most _ (h .view .line .beam) (frame-in _ (h .view .line .spans)));
+        across = rw (h .line) (transverse-in _ (h .view .line .spans .spans) .1);
+        along = h .view .least;
+      }
+
+  pub proportioned : Proportioned (w .l2) (v .l1)
+  unfolding lineWork
+  proportioned =
+      record {
+        across = stiffened .across;
+        along = h .view .least;
+        wide = rw (h .line) (h .view .wide);
+        long = rw (h .line) (h .view .long);
+      }
+
+module _ {v : View} (h : Workable v) where
+  abbrev on-line : WorkableSpan v (lineWork (v .line) (v .slab .t))
+  on-line = record { view = h; line = refl }
+
+  pub worked : Worked (spanWork v)
+  unfolding spanWork lineWork
+  worked =
+      let across = transverse-in (v .line .outer) (h .line .spans .spans) in
+      record {
+        moment = moment-most (loaded on-line (clear-most (h .spanned)));
+        stiffness = stiffness-most _ _ _;
+        ratio-least = ratio-in (proportioned on-line) .0;
+        ratio-most = ratio-in (proportioned on-line) .1;
+        strip = strip-most _ _ _ _ _;
+        width = frame-in _ (h .line .spans);
+        across-least = across .0;
+        across-most = across .1;
+        slab-least = h .line .beam .slab-least;
+        slab-most = h .line .beam .slab-most;
+      }
+
+  pub worked-end : {e : EndView} → WorkableEnd e (v .slab .t) → WorkedEnd (spanWork v) e
+  unfolding spanWork
+  worked-end beam = record { span = worked; beam = beam }
+
+-- of a span, with Mo, A, R and wc
+abbrev pub workOf : View → LineWork → ℕ → ℕ → ℕ → ℕ → SpanWork
+workOf v w moment a r strip =
+    record {
+      moment = moment;
+      a = a;
+      r = r;
+      strip = strip;
+      width = w .width;
+      l2 = w .l2;
+      t = v .slab .t;
+      layout = v .slab .layout;
+    }
+
+pub work-is : {v : View} {w : LineWork} {ln moment a r strip : ℕ} → WorkableSpan v w
+    → ln ≡ clearLength (v .l1) (v .line .along) → moment ≡ staticMoment (v .slab .dead) (v .slab .live) (w .width) ln
+    → a ≡ stiffnessRatio (w .alpha) (w .l2) (v .l1) → r ≡ spanRatio (w .l2) (v .l1) → strip ≡ stripOf v
+    → (workOf v w moment a r strip ≡ spanWork v) × Worked (workOf v w moment a r strip)
+unfolding spanWork lineWork
+work-is {v} {w} {moment = moment} {a} {r} {strip} h el em ea er es =
+    let e : workOf v w moment a r strip ≡ spanWork v = cc (h .line) in
+    (e, subst Worked (sym e) (worked (h .view)))

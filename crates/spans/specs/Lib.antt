@@ -1,0 +1,5 @@
+pub mod Views
+pub mod Works
+pub mod Sixteen
+pub mod Workable
+pub mod Meaning

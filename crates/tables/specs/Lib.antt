@@ -1,0 +1,5 @@
+pub mod Width
+pub mod Places
+pub mod Named
+pub mod Meaning
+pub mod Blank

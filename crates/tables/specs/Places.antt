@@ -1,0 +1,43 @@
+-- "x frames come first (line j, span i at j·nx + i), then y frames ((ny+1)·nx + i·ny + j)."
+-- Assumes nothing.
+use Prim.Native.Nat.{ℕ, _+_, _-_, _*_, _/_, _%_, _≤_, _<_}
+use mathlib.Core.Bool.{cond}
+use mathlib.Core.List.{List}
+use lib.Dec.{ltb}
+use Rattle.plan.specs.declared.ways.Way.{Way}
+use Rattle.plan.specs.declared.ways.Way.the-variants.{X, Y}
+use Rattle.plan.specs.Plan.{bays, lastLine}
+
+-- a span: of line `line` along `way`
+pub record Place : Type 0 where
+  pub way : Way
+  pub line : ℕ
+  pub span : ℕ
+
+-- one that the floor has
+pub record Inside (f : List ℕ) (p : Place) : Type 0 where
+  pub line : p .line ≤ lastLine f (p .way)
+  pub span : p .span < bays f (p .way)
+
+-- how many records: "(ny+1)nx+(nx+1)ny"
+unfoldable pub recordCount : List ℕ → ℕ
+recordCount f = (bays f Y + 1) * bays f X + (bays f X + 1) * bays f Y
+
+-- the record with which the frames along a direction start, and those of line l along it
+abbrev pub firstOf : List ℕ → Way → ℕ
+firstOf f X = 0
+firstOf f Y = (bays f Y + 1) * bays f X
+
+abbrev pub lineFirst : List ℕ → Way → ℕ → ℕ
+lineFirst f d l = firstOf f d + l * bays f d
+
+-- the record of a span
+abbrev pub numberOf : List ℕ → Place → ℕ
+numberOf f p = lineFirst f (p .way) (p .line) + p .span
+
+-- and the span of a record
+abbrev pub inWay : Way → ℕ → ℕ → Place
+inWay d n k = record { way = d; line = k / n; span = k % n }
+
+unfoldable pub placeOf : List ℕ → ℕ → Place
+placeOf f k = cond (ltb k (firstOf f Y)) (inWay X (bays f X) k) (inWay Y (bays f Y) (k - firstOf f Y))

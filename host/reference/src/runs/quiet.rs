@@ -1,0 +1,62 @@
+//! Short runs from clear floors on wrong numbers, many of which have to outlive the run: "every other
+//! keeps what it held, right or not".
+
+use super::changes::taken::clear_change_of;
+use super::changes::{changes, Changing};
+use super::clear;
+use super::tables::{table, Held};
+use super::Run;
+use crate::builder::last_index;
+use crate::draw::Draw;
+use crate::floors::LAYOUTS;
+
+pub fn runs() -> Vec<Run> {
+    [single_changes(), several_changes()].concat()
+}
+
+/// A single change of the first record of a kind, one inside, the last.
+fn single_changes() -> Vec<Run> {
+    let mut draw = Draw::starting_at(12);
+    let mut runs = Vec::new();
+    for (layout, words) in LAYOUTS {
+        for kind in [5, 6, 7, 8, 9] {
+            let nx = draw.between(3, 6) as usize;
+            let ny = draw.between(3, 6) as usize;
+            let floor = clear::floor(&mut draw, nx, ny, layout);
+            let last = last_index(&floor, kind);
+            for index in [0, draw.between(1, last - 1), last] {
+                let change = clear_change_of(&mut draw, &floor, kind, index);
+                runs.push(Run {
+                    description: format!("kind {kind} index {index}, {nx}x{ny}, {words}"),
+                    opens: false,
+                    floor: floor.clone(),
+                    table: table(&mut draw, &floor, Held::AllWrong, 2),
+                    changes: vec![change],
+                });
+            }
+        }
+    }
+    runs
+}
+
+fn several_changes() -> Vec<Run> {
+    let mut draw = Draw::starting_at(13);
+    let mut runs = Vec::new();
+    for number in 0..36 {
+        let (layout, words) = LAYOUTS[number % 3];
+        let most = if number < 6 { 12 } else { 7 };
+        let nx = draw.between(3, most) as usize;
+        let ny = draw.between(3, most) as usize;
+        let floor = clear::floor(&mut draw, nx, ny, layout);
+        let held = draw.one_of(&[Held::SomeWrong, Held::AllWrong]);
+        let count = draw.between(2, 6);
+        runs.push(Run {
+            description: format!("quiet {number}, {nx}x{ny}, {words}, {held:?}"),
+            opens: false,
+            table: table(&mut draw, &floor, held, count),
+            changes: changes(&mut draw, Changing::quietly(&floor), count),
+            floor,
+        });
+    }
+    runs
+}
