@@ -6,3 +6,4 @@ pub mod Room
 pub mod Numbers
 pub mod Meaning
 pub mod Ways
+pub mod Sums

@@ -2,6 +2,7 @@
 -- That the equations of `Opening` and `Changing` say these statements, and that no second answer or table does, is proved in proofs/Meaning.
 -- Assumes nothing.
 use Prim.Native.Nat.{ℕ, _+_, _*_, _≤_, _<_}
+use mathlib.Core.Bool.{cond}
 use mathlib.Core.List.{List}
 use mathlib.Core.Path.{_≡_}
 use lib.ListN.{length, getD}
@@ -12,6 +13,7 @@ use Rattle.verdict.specs.declared.Answer.{Answer}
 use Rattle.verdict.specs.Limits.{verdict}
 use Rattle.verdict.specs.Meaning.{Broken}
 use Rattle.spans.specs.Sixteen.{sixteen}
+use Rattle.spans.specs.Meaning.{unrestrained}
 use Rattle.tables.specs.Width.{recordWidth}
 use Rattle.tables.specs.Places.{Place, Inside, numberOf, recordCount}
 use Rattle.tables.specs.Meaning.{Names}
@@ -45,6 +47,18 @@ pub record TableOf (f t after : List ℕ) : Type 0 where
   pub past : (i : ℕ) → recordCount f * recordWidth ≤ i → getD after i 0 ≡ getD t i 0
   pub stands : verdict f ≡ 0 → (p : Place) → Inside f p → (n : ℕ) → n < recordWidth → numberIn f after p n ≡ rightNumber f p n
   pub broken : ¬ (verdict f ≡ 0) → (p : Place) → Inside f p → (n : ℕ) → n < recordWidth → numberIn f after p n ≡ 0
+
+-- a record's sections are low end, between, high end; section j starts with its total, and column, middle, beam and slab follow
+abbrev pub sectionAt : ℕ → ℕ
+sectionAt j = 1 + 5 * j
+
+-- "the three add up to their section exactly": middle, beam and slab of every section of every span; and "Negatives plus twice the positive
+-- make 200·Mo, but 201·Mo in an unrestrained end span"
+pub record AddsUp (f t : List ℕ) (p : Place) : Type 0 where
+  pub whole : (j : ℕ) → j < 3
+      → numberIn f t p (sectionAt j + 2) + numberIn f t p (sectionAt j + 3) + numberIn f t p (sectionAt j + 4) ≡ numberIn f t p (sectionAt j)
+  pub balance : numberIn f t p (sectionAt 0) + numberIn f t p (sectionAt 2) + 2 * numberIn f t p (sectionAt 1)
+      ≡ cond (unrestrained (viewIn f p .low)) 201 (cond (unrestrained (viewIn f p .high)) 201 200) * numberIn f t p 0
 
 -- of a table t that is lent, right or wrong: "the records named here get their right value and every other keeps what it held, right or not"
 pub record NamedOf (f : List ℕ) (kind index : ℕ) (t after : List ℕ) : Type 0 where
