@@ -7,4 +7,3 @@ pub mod Ratios
 pub mod Parts
 pub mod Signed
 pub mod Strips
-pub mod FiguresHold

@@ -7,5 +7,3 @@ pub mod Moments
 pub mod EndTable
 pub mod Ratios
 pub mod Strips
-pub mod FiguresOfLines
-pub mod FiguresOfMoments

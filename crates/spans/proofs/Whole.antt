@@ -19,7 +19,8 @@ use Rattle.rules.specs.MomentRanges.{Crossing, ShareRatios}
 use Rattle.rules.specs.EndTable.{innerPercent, endPercent}
 use Rattle.rules.specs.Ratios.{torsionRatio}
 use Rattle.rules.specs.Strips.{part, split}
-use Rattle.rules.proofs.EndTable.{row-in, end-most, end-balance, inner-balance}
+use Rattle.rules.proofs.EndTable.{percent-most, inner-most, end-balance, inner-balance}
+use Rattle.rules.proofs.Ratios.{torsion-most}
 use Rattle.rules.proofs.Parts.{part-in, outer-in}
 use Rattle.rules.proofs.Strips.{beam≤, split-whole}
 use Rattle.spans.specs.declared.view.EndView.{EndView}
@@ -36,17 +37,6 @@ either true h k = h
 either false h k = k
 
 -- ---- no percentage exceeds 75
-
-percent-most : (code : ℕ) (layout : Layout) (place : SpanPlace) → endPercent code layout place ≤ 75
-unfolding endPercent
-percent-most code layout OuterEnd = end-most _ 0 (row-in code layout .0) (lit< tt)
-percent-most code layout Between = end-most _ 1 (row-in code layout .0) (lit< tt)
-percent-most code layout InnerEnd = end-most _ 2 (row-in code layout .0) (lit< tt)
-
-inner-most : (place : SpanPlace) → innerPercent place ≤ 75
-inner-most OuterEnd = lit≤ tt
-inner-most Between = lit≤ tt
-inner-most InnerEnd = lit≤ tt
 
 row-most : (layout : Layout) (near far : EndView) (here there : SpanPlace) → percentOf layout near far here there ≤ 75
 unfolding percentOf
@@ -67,10 +57,6 @@ module _ {w : SpanWork} (h : Worked w) where
 
   part-most : {base crossover : ℕ} → Crossing base crossover → part base crossover (w .a) (w .r) ≤ 10000
   part-most l = le-trans (part-in l ratios .1) (lit≤ tt)
-
-  torsion-most : (T l2 t : ℕ) → torsionRatio T l2 t ≤ 25000
-  unfolding torsionRatio
-  torsion-most T l2 t = omega arith
 
   outer-most : (e : EndView) → outerPart w e ≤ 10000
   unfolding outerPart

@@ -5,12 +5,11 @@
 -- Assumes nothing.
 use Prim.Native.Nat.{ℕ, _≤_}
 use mathlib.Core.Path.{_≡_, refl, sym, subst}
-use native.Mathlib.Nat.{le-div-iff-mul-le, div-le-of-le-mul}
-use native.Mathlib.Omega.{arith}
-use Rattle.numbers.proofs.Bounded.{_⊕_, _⊗_, #}
 use Rattle.rules.specs.Moments.{clearLength, staticMoment}
-use Rattle.rules.specs.MomentRanges.{Spanned, Loaded, Stiffened, Proportioned}
+use Rattle.rules.specs.MomentRanges.{Loaded, Stiffened, Proportioned}
 use Rattle.rules.specs.Ratios.{stiffnessRatio, spanRatio}
+use Rattle.rules.proofs.Moments.{clear-most, moment-most}
+use Rattle.rules.proofs.Ratios.{stiffness-most, ratio-in}
 use Rattle.rules.proofs.Widths.{transverse-in, frame-in, strip-most}
 use Rattle.rules.proofs.Stiffness.{alpha-most}
 use Rattle.spans.specs.declared.view.EndView.{EndView}
@@ -19,22 +18,6 @@ use Rattle.spans.specs.declared.work.LineWork.{LineWork}
 use Rattle.spans.specs.declared.work.SpanWork.{SpanWork}
 use Rattle.spans.specs.Works.{stripOf, lineWork, spanWork}
 use Rattle.spans.specs.Workable.{WorkableEnd, Workable, WorkableSpan, Worked, WorkedEnd}
-
-clear-most : {l1 column : ℕ} → Spanned l1 column → clearLength l1 column ≤ 12000
-unfolding clearLength
-clear-most s = omega arith
-
-moment-most : {D L W ln : ℕ} → Loaded D L W ln → staticMoment D L W ln ≤ 25056000
-unfolding staticMoment
-moment-most s = omega (arith, (# 12 ⊗ s .dead ⊕ # 16 ⊗ s .live) ⊗ s .width ⊗ (s .clear ⊗ s .clear))
-
-stiffness-most : (α l2 l1 : ℕ) → stiffnessRatio α l2 l1 ≤ 10000
-unfolding stiffnessRatio
-stiffness-most α l2 l1 = omega arith
-
-ratio-in : {l2 l1 : ℕ} → Proportioned l2 l1 → (5000 ≤ spanRatio l2 l1) × (spanRatio l2 l1 ≤ 20000)
-unfolding spanRatio
-ratio-in {l2} {l1} s = (le-div-iff-mul-le {k = l1} (omega arith) .1 (omega arith), div-le-of-le-mul _ (omega arith))
 
 module _ {v : View} {w : LineWork} (h : WorkableSpan v w) where
   pub loaded : {ln : ℕ} → ln ≤ 12000 → Loaded (v .slab .dead) (v .slab .live) (w .width) ln

@@ -70,7 +70,8 @@ pub fn verdict(f: &[u8]) -> u32
     broken(f, layout_of(f), &ax, &ay)
 }
 
-// A refusal number, or 0 and what was asked.
+// A refusal number, or 0 and what was asked; laid out as C has it, for the product's face.
+#[repr(C)]
 pub struct Answer {
     pub refusal: u32,
     pub value: u32,

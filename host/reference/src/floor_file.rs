@@ -106,8 +106,7 @@ pub fn values_are_in_range(record: Record) -> bool {
     match kind {
         // "bays nx 1..12, bays ny 1..12, slab t 90..500"
         1 => (1..=12).contains(&a) && (1..=12).contains(&b) && (90..=500).contains(&c),
-        // "fc 20..60 MPa, fy 280, 420 or 520"
-        2 => (20..=60).contains(&a) && (b == 280 || b == 420 || b == 520),
+        2 => materials_are_in_range(a, b),
         // "dead D 1,000..30,000 (slab included), live L 0..50,000"
         3 => (1_000..=30_000).contains(&a) && (0..=50_000).contains(&b),
         4 => column_is_in_range(a) && column_is_in_range(b) && sides_are_in_range(c),
@@ -117,6 +116,11 @@ pub fn values_are_in_range(record: Record) -> bool {
         9 => (0..=12_000).contains(&a) && (0..=12_000).contains(&b),
         _ => false,
     }
+}
+
+/// "fc 20..60 MPa, fy 280, 420 or 520"
+pub fn materials_are_in_range(fc: u128, fy: u128) -> bool {
+    (20..=60).contains(&fc) && (fy == 280 || fy == 420 || fy == 520)
 }
 
 /// "cx, cy 200..1,500, multiples of 10"

@@ -1,7 +1,8 @@
 use reference::garage::garage;
-use reference::sheet::sheet;
+use reference::sheet::{line, sheet};
+use reference::steel::{answer, Query};
 use reference::verdict::judged;
-use reference::{cases, runs, vectors};
+use reference::{cases, queries, runs, vectors};
 use std::io::{Read, Write};
 use std::path::Path;
 use std::process::ExitCode;
@@ -14,7 +15,10 @@ const USAGE: &str = "usage:
                           it is not refused, a line per y bay of its panels' least thicknesses
   reference sheet         read a floor from standard input; print what the printing program has to
   reference runs DIR      write a few short runs of changes to DIR/stdin and DIR/stdout
-  reference garage        write the bytes of the example floor to standard output";
+  reference garage        write the bytes of the example floor to standard output
+  reference queries DIR   write a few steel queries to DIR/stdin and DIR/stdout
+  reference steel M B T D FC FY
+                          print refusal and area of a steel query";
 
 fn write_vectors(folder: &Path) -> io::Result<()> {
     let cases = cases::all();
@@ -32,6 +36,23 @@ fn write_runs(folder: &Path) -> io::Result<()> {
     fs::create_dir_all(folder)?;
     fs::write(folder.join("stdin"), runs::stdin(&runs))?;
     fs::write(folder.join("stdout"), runs::stdout(&runs))
+}
+
+fn write_queries(folder: &Path) -> io::Result<()> {
+    let queries = queries::kept::queries();
+    fs::create_dir_all(folder)?;
+    fs::write(folder.join("stdin"), queries::stdin(&queries))?;
+    fs::write(folder.join("stdout"), queries::stdout(&queries))
+}
+
+fn print_steel(words: [&str; 6]) -> io::Result<()> {
+    let mut numbers = [0; 6];
+    for (number, word) in numbers.iter_mut().zip(words) {
+        let read: u64 = word.parse().map_err(io::Error::other)?;
+        *number = read.into();
+    }
+    let (refused, area) = answer(Query::of(numbers));
+    io::stdout().write_all(line(&[refused, area]).as_bytes())
 }
 
 /// Reads a floor from standard input and prints the text of it.
@@ -55,6 +76,8 @@ fn main() -> ExitCode {
         ["sheet"] => print_of_floor(sheet),
         ["runs", folder] => write_runs(Path::new(folder)),
         ["garage"] => write_garage(),
+        ["queries", folder] => write_queries(Path::new(folder)),
+        ["steel", m, b, t, d, fc, fy] => print_steel([m, b, t, d, fc, fy]),
         _ => {
             eprintln!("{USAGE}");
             return ExitCode::from(2);

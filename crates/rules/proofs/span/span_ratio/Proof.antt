@@ -2,9 +2,8 @@
 -- Assumes nothing.
 use mathlib.Core.Path.{refl}
 use borrow.Author.Needs.{needs}
-use native.Mathlib.Nat.{le-div-iff-mul-le, div-le-of-le-mul}
-use native.Mathlib.Omega.{arith}
 use Rattle.rules.specs.Ratios.{spanRatio}
+use Rattle.rules.proofs.Ratios.{ratio-in}
 use Rattle.rules.proofs.span.span_ratio.Statement.{statement}
 use Rattle.rules.proofs.span.span_ratio.Tie as tie
 
@@ -15,4 +14,4 @@ span-ratio-spec =
     (tie.spec
     (λ c. search needs)
     (λ c. search needs)
-    (λ c. (refl, le-div-iff-mul-le (omega arith) .1 (omega arith), div-le-of-le-mul _ (omega arith))))
+    (λ c. (refl, ratio-in (c .pre) .0, ratio-in (c .pre) .1)))

@@ -3,9 +3,9 @@
 use mathlib.Core.Path.{refl}
 use Prim.Native.Nat.{_+_, _*_, _≤_}
 use borrow.Author.Needs.{needs}
-use native.Mathlib.Omega.{arith}
 use Rattle.rules.specs.Moments.{staticMoment}
 use Rattle.numbers.proofs.Bounded.{_⊕_, _⊗_, #, fits}
+use Rattle.rules.proofs.Moments.{moment-most}
 use Rattle.rules.proofs.span.static_moment.Statement.{statement}
 use Rattle.rules.proofs.span.static_moment.Tie as tie
 
@@ -29,4 +29,4 @@ static-moment-spec =
     (λ c. fits (square c) tt)
     (λ c. fits (load c ⊗ square c) tt)
     (λ c. fits (load c ⊗ square c ⊕ # _) tt)
-    (λ c. (refl, omega (arith, load c ⊗ square c))))
+    (λ c. (refl, moment-most (c .pre))))

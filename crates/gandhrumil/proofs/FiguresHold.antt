@@ -1,0 +1,20 @@
+-- The starred figures of 01 are what the definitions make: were one of them wrong, the claim would fail with its name.
+-- Assumes nothing.
+use mathlib.Core.List.{[]}
+use mathlib.Core.Path.{_≡_, refl}
+use Rattle.numbers.specs.Figures.{wrong}
+use Rattle.rules.specs.Sections.{inertia, torsion, flange, edgeTorsion}
+use Rattle.rules.specs.Lines.{alpha}
+use Rattle.rules.specs.LeastThickness.{stiff, middling, tabled, leastThickness}
+use Rattle.rules.specs.Moments.{staticMoment}
+use Rattle.rules.specs.Ratios.{torsionRatio}
+use Rattle.rules.specs.Strips.{part, outerNegative, beamShare, split}
+use Rattle.steel.specs.Query.{depthListed, gradeListed, inRange, defaultDepth, depthOf}
+use Rattle.steel.specs.Area.{K}
+use Rattle.steel.specs.Search.{first, firstWithin, leastWithin}
+use Rattle.steel.specs.Steel.{minimumArea, strainArea, limitsAt, steelOf}
+use Rattle.gandhrumil.specs.Figures.{figures}
+
+pub figures-hold : wrong figures ≡ []
+unfolding figures inertia torsion flange edgeTorsion alpha stiff middling tabled leastThickness staticMoment torsionRatio part outerNegative beamShare split depthListed gradeListed inRange defaultDepth depthOf K first firstWithin leastWithin minimumArea strainArea limitsAt steelOf
+figures-hold = refl

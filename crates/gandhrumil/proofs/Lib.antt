@@ -1,0 +1,2 @@
+pub mod FiguresHold
+pub mod Demands

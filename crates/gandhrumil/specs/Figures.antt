@@ -1,0 +1,51 @@
+-- "Figures to hold it against": those marked *, of every layer, as one table. proofs/FiguresHold computes them under one claim.
+-- Assumes nothing.
+use mathlib.Core.Bool.{true, false}
+use mathlib.Core.List.{List, [], _∷_}
+use Prim.Native.Nat.{ℕ}
+use Rattle.numbers.specs.Figures.{Figure, figure}
+use Rattle.rules.specs.declared.strip.Strips.{Strips}
+use Rattle.rules.specs.declared.thickness.Place.the-variants.{Inner}
+use Rattle.rules.specs.Sections.{edgeTorsion}
+use Rattle.rules.specs.Lines.{alpha}
+use Rattle.rules.specs.LeastThickness.{leastThickness}
+use Rattle.rules.specs.Moments.{staticMoment}
+use Rattle.rules.specs.Ratios.{torsionRatio}
+use Rattle.rules.specs.Strips.{between, innerNegative, outerNegative, columnStrip, split}
+use Rattle.verdict.specs.declared.Answer.{Answer}
+use Rattle.steel.specs.Steel.{steelOf}
+
+-- "Total 38,290,000, part 8131, A 10000"
+abbrev strips : Strips
+strips = split 38290000 (columnStrip 38290000 8131) 10000
+
+-- "b 1,000, t 150, d 124, fc 30, fy 420"; neither is refused, since "refused queries answer 0 mm or 0 mm²"
+abbrev area : ℕ → ℕ
+area M = steelOf M 1000 150 124 30 420 .value
+
+unfoldable pub figures : List Figure
+figures =
+    figure "Mo of D 7,000, L 2,500, W 3,800, ln 4,700" (staticMoment 7000 2500 3800 4700) 130111
+    ∷ figure "Mo of D 2,500, L 3,000, W 5,000, ln 5,600" (staticMoment 2500 3000 5000 5600) 152880
+    ∷ figure "α, inside beam 350×700, W 6,000, t 165" (alpha false 350 700 6000 165) 89081
+    ∷ figure "T, outer 300×600, t 180" (edgeTorsion 300 600 180) 1288509120000
+    ∷ figure "B of that T, l2 6,000, t 180" (torsionRatio (edgeTorsion 300 600 180) 6000 180) 7364
+    ∷ figure "between at A 10000, R 7894" (between 10000 7894) 8131
+    ∷ figure "inner negative at A 10000, R 7894" (innerNegative 10000 7894) 8131
+    ∷ figure "between at A 10000, R 20000" (between 10000 20000) 4500
+    ∷ figure "inner negative at A 10000, R 20000" (innerNegative 10000 20000) 4500
+    ∷ figure "outer negative at A 10000, R 20000, B 25000" (outerNegative 10000 20000 25000) 4500
+    ∷ figure "between at A 10000, R 5000" (between 10000 5000) 9000
+    ∷ figure "inner negative at A 10000, R 5000" (innerNegative 10000 5000) 9000
+    ∷ figure "outer negative at A 10000, R 5000, B 25000" (outerNegative 10000 5000 25000) 9000
+    ∷ figure "between at A 0, R 5000" (between 0 5000) 6000
+    ∷ figure "inner negative at A 0, R 5000" (innerNegative 0 5000) 7500
+    ∷ figure "column strip of total 38,290,000, part 8131" (strips .column) 31133599
+    ∷ figure "middle strip of that total" (strips .middle) 7156401
+    ∷ figure "beam of that column strip, A 10000" (strips .beam) 26463559
+    ∷ figure "slab of that column strip" (strips .slab) 4670040
+    ∷ figure "least thickness, fy 420: 6,300 by 5,000, S 92,000" (leastThickness true Inner 420 5000 6300 92000) 147
+    ∷ figure "least thickness, fy 420: 5,500 by 5,000, S 68,000" (leastThickness true Inner 420 5000 5500 68000) 137
+    ∷ figure "As of M 2,195,000, b 1,000, t 150, d 124, fc 30, fy 420" (area 2195000) 484
+    ∷ figure "As of M 0" (area 0) 270
+    ∷ []

@@ -1,0 +1,40 @@
+// The product's face: what C and Rust call (include/gandhrumil.h). Every function takes any bytes, any slices and any numbers, and adds nothing of
+// its own to what the layer below promises.
+ghost use mathlib.Core.Path.{_≡_};
+ghost use Rattle.verdict.specs.Answers.{panelOf};
+ghost use Rattle.moments.specs.Opening.{Opened};
+ghost use Rattle.moments.specs.Changing.{Changed};
+ghost use Rattle.steel.specs.Steel.{steelOf};
+use verdict::Answer;
+
+// Opens a floor: its refusal, or its verdict and its table.
+#[no_mangle]
+pub extern "C" fn gandhrumil_open(floor: &[u8], table: &mut [u32]) -> Answer
+    ensures { λ r. ⌜ Opened (now (floor .entry)) (now (table .entry)) r (now (table .exit)) ⌝ }
+{
+    moments::open(floor, table)
+}
+
+// A change to a floor and its table: refused, and neither is touched, or taken, with the verdict of the floor it made.
+#[no_mangle]
+pub extern "C" fn gandhrumil_change(floor: &mut [u8], table: &mut [u32], change: &[u8]) -> Answer
+    ensures { λ r. ⌜ Changed (now (floor .entry)) (now (table .entry)) (now (change .entry)) r (now (floor .exit)) (now (table .exit)) ⌝ }
+{
+    moments::change(floor, table, change)
+}
+
+// The least thickness in mm of the panel of x bay x and y bay y.
+#[no_mangle]
+pub extern "C" fn gandhrumil_panel(floor: &[u8], x: u64, y: u64) -> Answer
+    ensures { λ r. ⌜ r ≡ panelOf (now (floor .entry)) x y ⌝ }
+{
+    verdict::panel(floor, x, y)
+}
+
+// The least whole area of steel in mm² for the moment m, in N·cm, on a width b of a slab of thickness t.
+#[no_mangle]
+pub extern "C" fn gandhrumil_steel(m: u64, b: u64, t: u64, d: u64, fc: u64, fy: u64) -> Answer
+    ensures { λ r. ⌜ r ≡ steelOf m b t d fc fy ⌝ }
+{
+    steel::steel(m, b, t, d, fc, fy)
+}

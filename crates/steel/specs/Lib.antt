@@ -1,0 +1,6 @@
+pub mod Query
+pub mod Area
+pub mod Answered
+pub mod Search
+pub mod Steel
+pub mod Ranges

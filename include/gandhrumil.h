@@ -1,0 +1,65 @@
+/* Gandhrumil: suspended concrete floors by the Direct Design Method of ACI 318-14.
+ *
+ * Link with libgandhrumil.a, which `rt staticlib gandhrumil` proves and writes to target/staticlib (x86-64).
+ *
+ * Every call takes any bytes, any lengths and any numbers, and always returns: nothing has to be looked at first. A pointer may be
+ * anything, NULL too, where its length is 0. The buffers of one call must not overlap, and nobody else may write to them during it.
+ * Nothing is kept between calls, nothing is allocated, and a call touches no memory but the buffers lent to it.
+ */
+#ifndef GANDHRUMIL_H
+#define GANDHRUMIL_H
+
+#include <stddef.h>
+#include <stdint.h>
+
+#ifdef __cplusplus
+extern "C" {
+#endif
+
+/* refusal 0: the call succeeded, and value is what was asked. Otherwise refusal is the number of the first reason that applies:
+ *    1  the floor's length is no multiple of 16, or below 14 records
+ *    2  record 0 is not kind 1 index 0, or nx, ny or t is out of range
+ *    3  the record count is not what nx and ny ask
+ *    4  some kind, index or zero field is not as listed
+ *    5  some value is out of range, or one beam size alone is 0
+ *    6  twice a column exceeds a span in its direction
+ *    7  the layout is not allowed, or a beam's depth is not above t
+ *    8  the table is shorter than 16 * ((ny + 1) * nx + (nx + 1) * ny) numbers
+ *    9  a change is not 16 bytes, not of kind 3 or 5 to 9, has an index the floor lacks, or an unlisted field not zero
+ *   10  there is no such panel
+ *   11  a value of a steel query is out of range
+ *   12  no steel area fits
+ */
+typedef struct {
+    uint32_t refusal;
+    uint32_t value;
+} gandhrumil_answer;
+
+/* Opens a floor. Tries 1 to 8. value is the verdict, 255 where refused: the sum of 1 (fewer than three bays one way), 2 (a panel longer
+ * than twice its width), 4 (neighbouring spans differ by more than a third), 8 (a column off its line by more than a tenth of a span),
+ * 16 (live load above twice dead load), 32 (stiffness of the two directions apart by more than five times), 64 (slab too thin).
+ * Where it is not refused the table's numbers are written, sixteen for each span: Mo in N.m, then low end, between, high end in N.cm, each
+ * as total, column strip, middle strip, beam, slab; x frames first (line j, span i is record j * nx + i), then y frames (record
+ * (ny + 1) * nx + i * ny + j). They are all 0 unless the verdict is 0. Numbers past them are left alone; a refusal writes nothing. */
+gandhrumil_answer gandhrumil_open(const uint8_t *floor, size_t floor_len, uint32_t *table, size_t table_len);
+
+/* Changes one record of a floor. Tries 1 to 7 on the floor, 9, 5 to 7 on the changed floor, then 8. value is the verdict of the floor that the
+ * change makes, 255 where refused. Where it is taken the 16 bytes are stored in their place and the table is kept: where the verdict is 0
+ * before and after, just the records that the change bears on are written; otherwise the whole table. A refusal writes nothing.
+ * A table that gandhrumil_open filled stays, after any number of changes, what gandhrumil_open would make of the floor as it then is. */
+gandhrumil_answer gandhrumil_change(uint8_t *floor, size_t floor_len, uint32_t *table, size_t table_len,
+                                    const uint8_t *change, size_t change_len);
+
+/* The least thickness in mm of the panel of x bay x and y bay y, each counted from 0. Tries 1 to 7, then 10; 0 where refused. */
+gandhrumil_answer gandhrumil_panel(const uint8_t *floor, size_t floor_len, uint64_t x, uint64_t y);
+
+/* The least whole area of steel in mm2 for the moment m, 0 to 2,000,000,000 N.cm, on a width b, 1 to 12,000 mm, of a slab of thickness t, 90 to
+ * 500 mm, at the effective depth d, 50 to t - 25 mm, or 0 for t - 26; concrete fc, 20 to 60 MPa, steel fy, 280, 420 or 520 MPa.
+ * 11 where a value is out of range, then 12 where no area carries the moment within the steel limits; 0 mm2 where refused. */
+gandhrumil_answer gandhrumil_steel(uint64_t m, uint64_t b, uint64_t t, uint64_t d, uint64_t fc, uint64_t fy);
+
+#ifdef __cplusplus
+}
+#endif
+
+#endif
