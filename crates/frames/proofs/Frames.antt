@@ -1,28 +1,28 @@
 -- The lines of a frame and the frames of both directions: each line's named records are a stretch of it (crate tables), and stretches that
 -- follow one another are one.
 -- Assumes nothing.
-use Prim.Native.Nat.{ℕ, _+_, _-_, _*_, _≤_, _<_}
+use Prim.Native.Nat.{ℕ, _+_, _-_, _*_, _≤_}
 use mathlib.Core.List.{List}
-use mathlib.Core.Path.{_≡_, refl, sym, ap, _∙_}
+use mathlib.Core.Path.{_≡_, sym, ap, _∙_}
 use native.Mathlib.Nat.{suc-mul, zero-add, zero-mul}
 use native.Mathlib.Numerals.{add-one}
 use native.Mathlib.Omega.{arith}
 use lib.ListN.{length}
 use Rattle.numbers.specs.Records.{writtenFrom, every}
-use Rattle.numbers.proofs.Written.{from-none, from-run, length-from}
+use Rattle.numbers.proofs.Written.{from-none, from-run}
 use Rattle.records.proofs.Places.{count-most}
 use Rattle.plan.specs.declared.ways.Way.{Way}
 use Rattle.plan.specs.declared.ways.Way.the-variants.{X, Y}
-use Rattle.plan.specs.Plan.{bays, many, lastLine}
+use Rattle.plan.specs.Plan.{bays, lastLine}
 use Rattle.floor.proofs.Fair.{fair}
 use Rattle.spans.specs.declared.view.SlabView.{SlabView}
 use Rattle.tables.specs.declared.named.Spans.{Spans}
 use Rattle.tables.specs.Width.{recordWidth}
-use Rattle.tables.specs.Places.{firstOf, lineFirst, recordCount}
+use Rattle.tables.specs.Places.{firstOf, lineFirst}
 use Rattle.tables.specs.Named.{namedSpans, namedAt, Naming}
-use Rattle.tables.proofs.Numbered.{bays-most, lines-sum-x, lines-sum-y, line-below}
+use Rattle.tables.proofs.Numbered.{bays-most, lines-sum-y}
 use Rattle.tables.proofs.Meaning.{to-most, from-most, line-written}
-use Rattle.frames.specs.Held.{Standing, Slabbed, AtLine, AtSpans}
+use Rattle.frames.specs.Held.{Slabbed, AtLine, AtSpans}
 use Rattle.frames.specs.Table.{recordAt, renamed}
 
 -- ---- one line

@@ -1,32 +1,31 @@
 -- A span's record in its place: what is read and worked out of a span is its view and its record, and a line's records follow one another.
 -- Assumes nothing.
-use Prim.Native.Nat.{ℕ, _+_, _-_, _*_, _≤_, _<_}
-use mathlib.Core.Bool.{Bool}
+use Prim.Native.Nat.{ℕ, _+_, _-_, _≤_, _<_}
 use mathlib.Core.List.{List}
-use mathlib.Core.Path.{_≡_, refl, sym, ap, subst, _∙_}
+use mathlib.Core.Path.{_≡_, ap, _∙_}
 use native.Mathlib.Omega.{arith}
 use lib.ListN.{length}
 use Rattle.numbers.specs.Records.{put, writtenFrom, every}
 use Rattle.numbers.proofs.Written.{from-more}
 use Rattle.plan.specs.declared.ways.Way.{Way}
 use Rattle.plan.specs.Ways.{across}
-use Rattle.plan.specs.Plan.{bays, span, lastLine}
+use Rattle.plan.specs.Plan.{bays, span}
 use Rattle.floor.proofs.Fair.{fair}
 use Rattle.spans.specs.declared.view.SlabView.{SlabView}
 use Rattle.spans.specs.declared.view.LineView.{LineView}
 use Rattle.spans.specs.declared.view.View.{View}
 use Rattle.spans.specs.declared.work.LineWork.{LineWork}
-use Rattle.spans.specs.Views.{slabView, lineView, lowEnd, highEnd, viewOf}
+use Rattle.spans.specs.Views.{lineView, lowEnd, highEnd, viewOf}
 use Rattle.spans.specs.Works.{lineWork}
 use Rattle.spans.specs.Sixteen.{sixteen}
-use Rattle.spans.specs.Workable.{WorkableLine, Workable, WorkableSpan, ClearSpan}
+use Rattle.spans.specs.Workable.{WorkableLine, WorkableSpan}
 use Rattle.spans.proofs.Clear.{workable}
 use Rattle.tables.specs.declared.named.Spans.{Spans}
 use Rattle.tables.specs.Width.{recordWidth}
-use Rattle.tables.specs.Places.{Place, Inside, placeOf, numberOf, lineFirst, recordCount}
+use Rattle.tables.specs.Places.{Place, Inside, placeOf, lineFirst}
 use Rattle.tables.proofs.Numbered.{bays-most, number-place, number-below, place-inside}
-use Rattle.frames.specs.Held.{Standing, AtSpans, AtSpan}
-use Rattle.frames.specs.Table.{viewIn, viewAt, recordAt}
+use Rattle.frames.specs.Held.{AtSpans, AtSpan}
+use Rattle.frames.specs.Table.{viewAt, recordAt}
 
 -- what a view of a span is made of
 abbrev pub seen : List ℕ → SlabView → LineView → Way → ℕ → View

@@ -10,7 +10,7 @@ use lib.ListN.{length}
 use Rattle.numbers.specs.Least.{Least}
 use Rattle.floor.specs.Refusal.{refusal}
 use Rattle.floor.specs.Meaning.{Given}
-use Rattle.changes.specs.Change.{changeKind, changeIndex, changed}
+use Rattle.changes.specs.Change.{changeKind, changeIndex}
 use Rattle.verdict.specs.declared.Answer.{Answer}
 use Rattle.verdict.specs.Limits.{verdict}
 use Rattle.verdict.specs.Meaning.{Broken}

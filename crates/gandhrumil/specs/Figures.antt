@@ -12,7 +12,6 @@ use Rattle.rules.specs.LeastThickness.{leastThickness}
 use Rattle.rules.specs.Moments.{staticMoment}
 use Rattle.rules.specs.Ratios.{torsionRatio}
 use Rattle.rules.specs.Strips.{between, innerNegative, outerNegative, columnStrip, split}
-use Rattle.verdict.specs.declared.Answer.{Answer}
 use Rattle.steel.specs.Steel.{steelOf}
 
 -- "Total 38,290,000, part 8131, A 10000"

@@ -3,10 +3,8 @@
 -- Assumes nothing.
 use Prim.Native.Nat.{ℕ, _*_, _≤_}
 use mathlib.Core.Bool.{Bool, true, false, cond}
-use mathlib.Core.List.{List, [], _∷_}
-use mathlib.Core.Path.{_≡_, refl, sym, ap, subst, _∙_}
-use native.Mathlib.Omega.{arith}
-use lib.Dec.{eqb}
+use mathlib.Core.List.{List, _∷_}
+use mathlib.Core.Path.{_≡_, refl, sym, ap, _∙_}
 use lib.ListN.{length}
 use Rattle.numbers.specs.Tests.{Says}
 use Rattle.numbers.proofs.Tests.{says-eq, by-test}
@@ -22,7 +20,7 @@ use Rattle.tables.specs.Places.{recordCount}
 use Rattle.moments.specs.Tables.{fresh}
 use Rattle.moments.specs.Opening.{openRefusal, answered, Opened}
 use Rattle.moments.specs.Changing.{changeNumber, floorAfter, tableAfter, Changed}
-use Rattle.moments.specs.Mornings.{Morning, placed, gave, Held}
+use Rattle.moments.specs.Mornings.{Morning, Held}
 use Rattle.moments.specs.Mornings.Morning.{none, then}
 use Rattle.moments.proofs.Fresh.{both-zero, room-of, length-fresh, count-kept, made-fresh}
 

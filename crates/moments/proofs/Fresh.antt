@@ -2,14 +2,13 @@
 -- have the same view before and after (SameView), and where a verdict is not clear it writes all.
 -- Assumes nothing.
 use Prim.Native.Nat.{ℕ, _*_, _<_, _≤_}
-use mathlib.Core.Bool.{Bool, true, false, cond, _&&_, true≢false}
+use mathlib.Core.Bool.{Bool, false, cond, _&&_, true≢false}
 use mathlib.Core.List.{List}
-use mathlib.Core.Path.{_≡_, refl, sym, ap, subst, _∙_}
+use mathlib.Core.Path.{_≡_, refl, sym, ap, _∙_}
 use mathlib.Core.Logic.{inl, inr}
 use native.Mathlib.Decide.{decLt}
 use native.Mathlib.Omega.{arith}
-use lib.Dec.{eqb, ltb}
-use lib.ListN.{length, getD}
+use lib.ListN.{length}
 use borrow.Author.Tests.{eq-eqb}
 use Rattle.numbers.specs.Records.{written, every}
 use Rattle.numbers.specs.Tests.{Says}
@@ -18,10 +17,8 @@ use Rattle.numbers.proofs.Written.{length-written, same-written, rewritten}
 use Rattle.plan.specs.declared.ways.Way.{Way}
 use Rattle.plan.specs.declared.ways.Way.the-variants.{X, Y}
 use Rattle.plan.specs.Plan.{bays}
-use Rattle.floor.specs.Refusal.{refusal}
-use Rattle.changes.specs.Change.{changeKind, changeIndex, changed, orElse, changeRefusal}
+use Rattle.changes.specs.Change.{changeKind, changeIndex, changed, orElse}
 use Rattle.changes.specs.Meaning.{Taken}
-use Rattle.changes.proofs.Given.{taken}
 use Rattle.changes.proofs.Kept.{bays-kept}
 use Rattle.verdict.specs.Limits.{verdict}
 use Rattle.verdict.specs.Meaning.{Few}
@@ -35,7 +32,6 @@ use Rattle.tables.proofs.Meaning.{says-named-at}
 use Rattle.frames.specs.Table.{viewAt, recordAt, renamed}
 use Rattle.moments.specs.Tables.{rightRecord, fresh, roomRefusal}
 use Rattle.moments.specs.Tables as tables
-use Rattle.moments.specs.Changing.{changeNumber, floorAfter, tableAfter}
 use Rattle.moments.specs.Changing as changing
 use Rattle.moments.proofs.SameView.{same-view}
 

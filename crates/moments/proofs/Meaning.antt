@@ -3,27 +3,23 @@
 use Prim.Native.Nat.{ℕ, _*_, _≤_}
 use mathlib.Core.Bool.{_&&_}
 use mathlib.Core.List.{List}
-use mathlib.Core.Path.{_≡_, refl, sym, ap, subst, _∙_}
-use lib.Dec.{eqb}
+use mathlib.Core.Path.{_≡_, refl, sym, subst, _∙_}
 use lib.ListN.{length}
-use borrow.Author.Tests.{eq-eqb, ne-eqb}
+use borrow.Author.Tests.{ne-eqb}
 use Rattle.numbers.specs.Tests.{Says}
-use Rattle.numbers.proofs.Tests.{says-eq, says-and, fails, by-test}
+use Rattle.numbers.proofs.Tests.{says-eq, says-and, fails}
 use Rattle.floor.specs.Refusal.{refusal}
 use Rattle.changes.specs.Change.{changeKind, changeIndex, changed}
-use Rattle.changes.specs.Meaning.{Taken}
 use Rattle.verdict.specs.declared.Answer.{Answer}
 use Rattle.verdict.specs.Answers.{answer}
 use Rattle.verdict.specs.Limits.{verdict}
-use Rattle.verdict.specs.Meaning.{Broken}
 use Rattle.verdict.proofs.Meaning.{broken, broken-one}
 use Rattle.tables.specs.Width.{recordWidth}
 use Rattle.tables.specs.Places.{recordCount}
-use Rattle.frames.specs.Table.{renamed}
-use Rattle.moments.specs.Tables.{clear, fresh}
+use Rattle.moments.specs.Tables.{clear}
 use Rattle.moments.specs.Opening.{openRefusal, answered, Opened}
-use Rattle.moments.specs.Changing.{changeNumber, rewritten, floorAfter, tableAfter, Changed}
-use Rattle.moments.specs.Meaning.{GivenOpening, GivenChanging, TableOf, NamedOf, Judged, OpeningSays, ChangeSays}
+use Rattle.moments.specs.Changing.{changeNumber, rewritten, tableAfter, Changed}
+use Rattle.moments.specs.Meaning.{TableOf, NamedOf, Judged, OpeningSays, ChangeSays}
 use Rattle.moments.proofs.Fresh.{both-zero, room-of, count-kept}
 use Rattle.moments.proofs.Demand.{taken-of}
 use Rattle.moments.proofs.Room.{given-opening, given-changing}

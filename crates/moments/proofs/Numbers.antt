@@ -1,10 +1,10 @@
 -- The table, number by number: what `fresh` and `renamed` leave at every span and past the records, and that no second table does.
 -- A record is found by its span and a span by its record (crate tables, Numbered), so two tables alike at every span are equal.
 -- Assumes nothing.
-use Prim.Native.Nat.{ℕ, _+_, _*_, _≤_, _<_}
+use Prim.Native.Nat.{ℕ, _*_, _≤_, _<_}
 use mathlib.Core.Bool.{Bool, true, cond}
 use mathlib.Core.List.{List}
-use mathlib.Core.Path.{_≡_, refl, sym, ap, _∙_}
+use mathlib.Core.Path.{_≡_, sym, ap, _∙_}
 use native.Mathlib.Omega.{arith}
 use lib.ListN.{length, getD, getD-replicate}
 use Rattle.numbers.specs.Records.{every}
@@ -22,7 +22,7 @@ use Rattle.tables.proofs.Numbered.{number-place, place-inside, place-number, nu
 use Rattle.tables.proofs.Meaning.{says-named, says-named-at}
 use Rattle.frames.specs.Table.{viewIn, viewAt, recordAt, renamed}
 use Rattle.moments.specs.Tables.{rightRecord, fresh}
-use Rattle.moments.specs.Meaning.{numberIn, rightNumber, TableOf, NamedOf}
+use Rattle.moments.specs.Meaning.{numberIn, TableOf, NamedOf}
 use Rattle.moments.proofs.Fresh.{record-full, right-full, right-clear, length-fresh}
 
 -- what a test decides

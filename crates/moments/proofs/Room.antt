@@ -1,12 +1,11 @@
 -- 8 is given exactly when the numbers tried before it give none and the table is short: one law for opening and for a change.
 -- Assumes nothing.
-use Prim.Native.Nat.{ℕ, _*_, _≤_, _<_}
+use Prim.Native.Nat.{ℕ, _*_}
 use mathlib.Core.List.{List}
 use mathlib.Core.Logic.{_↔_}
 use mathlib.Core.Path.{_≡_, refl, sym, subst, _∙_}
-use native.Mathlib.Decide.{decLt}
 use native.Mathlib.Omega.{arith}
-use borrow.Author.Tests.{lt-ltb, le-ltb, ne-eqb, eq-eqb}
+use borrow.Author.Tests.{lt-ltb, le-ltb, ne-eqb}
 use Rattle.numbers.proofs.Tests.{says-eq, says-lt, by-test}
 use Rattle.floor.specs.Refusal.{refusal}
 use Rattle.floor.proofs.Meaning.{given}

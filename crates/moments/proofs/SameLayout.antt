@@ -1,7 +1,7 @@
 -- No single beam change can change the layout of a floor with two bays or more each way: lines 0 and 1 of either direction tell it, the
 -- first an outer line and the second not, and a change leaves the lines of one direction as they were.
 -- Assumes nothing.
-use Prim.Native.Nat.{ℕ, _+_, _<_, _≤_}
+use Prim.Native.Nat.{ℕ, _<_, _≤_}
 use mathlib.Core.List.{List}
 use mathlib.Core.Logic.{_↔_, inl, ⊎-elim}
 use mathlib.Core.Path.{_≡_, refl, sym, subst}
@@ -11,7 +11,7 @@ use Rattle.plan.specs.Plan.{lastLine, beamWidth}
 use Rattle.floor.specs.declared.layout.Layout.{Layout}
 use Rattle.floor.specs.declared.layout.Layout.the-variants.{Everywhere, OuterOnly, Bare}
 use Rattle.floor.specs.Layouts.{layoutOf}
-use Rattle.floor.specs.Meaning.{Beamed, Outer, HasBeam, LaidOut}
+use Rattle.floor.specs.Meaning.{Beamed, Outer, LaidOut}
 use Rattle.floor.specs.Refusal.{refusal}
 use Rattle.floor.proofs.Fair.{fair}
 

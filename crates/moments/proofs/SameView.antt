@@ -1,8 +1,8 @@
 -- A span that a change does not name has the same view before and after: each number of the view is read from a record that is not the
 -- changed one, clause by clause of 01's list.
 -- Assumes nothing.
-use Prim.Native.Nat.{ℕ, _+_, _-_, _/_, _%_, _<_, _≤_}
-use mathlib.Core.Bool.{Bool, true, cond, _||_}
+use Prim.Native.Nat.{ℕ, _+_, _-_, _/_, _%_, _≤_}
+use mathlib.Core.Bool.{true, cond, _||_}
 use mathlib.Core.List.{List}
 use mathlib.Core.Logic.{inl, inr, ⊎-elim}
 use mathlib.Core.Path.{_≡_, refl, sym, ap}
@@ -14,8 +14,8 @@ use Rattle.plan.specs.declared.ways.Way.{Way}
 use Rattle.plan.specs.declared.ways.Way.the-variants.{X, Y}
 use Rattle.plan.specs.declared.ways.End.{End}
 use Rattle.plan.specs.declared.ways.End.the-variants.{Low, High}
-use Rattle.plan.specs.Ways.{pick, across, spanKind, lineKind, partOf, sideUnit}
-use Rattle.plan.specs.Plan.{bays, value, thickness, dead, live, column, side, span, lastLine, beamWidth, beamDepth}
+use Rattle.plan.specs.Ways.{across, spanKind, lineKind, sideUnit}
+use Rattle.plan.specs.Plan.{bays, value, dead, live, column, side, span, beamWidth, beamDepth}
 use Rattle.floor.specs.Layouts.{layoutOf}
 use Rattle.changes.specs.Change.{changeKind, changeIndex, changed}
 use Rattle.changes.specs.Meaning.{Taken}

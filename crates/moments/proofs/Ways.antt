@@ -1,35 +1,33 @@
 -- Each way out of opening and of a change, with what was answered on it as premises; and the whole table, written by naming all or by zeros.
 -- Assumes nothing.
-use Prim.Native.Nat.{ℕ, _*_, _≤_, _<_}
+use Prim.Native.Nat.{ℕ}
 use mathlib.Core.Bool.{Bool, true, false, _&&_, false≢true}
 use mathlib.Core.List.{List}
 use mathlib.Core.Path.{_≡_, refl, sym, ap, _∙_}
 use native.Mathlib.Omega.{arith}
-use lib.Dec.{eqb, ltb}
+use lib.Dec.{eqb}
 use lib.ListN.{length}
 use borrow.Author.Tests.{ne-eqb, eqb-true, eqb-false}
 use Rattle.numbers.specs.Records.{every}
 use Rattle.numbers.proofs.Written.{same-written}
 use Rattle.records.specs.Kinds.{countOf}
-use Rattle.plan.specs.Plan.{many}
 use Rattle.floor.specs.Refusal.{refusal}
 use Rattle.changes.specs.Change.{changeKind, changeIndex, changed, orElse}
 use Rattle.changes.specs.Meaning.{Taken}
 use Rattle.changes.proofs.Kept.{many-kept}
-use Rattle.verdict.specs.declared.Answer.{Answer}
 use Rattle.verdict.specs.Answers.{answer}
 use Rattle.verdict.specs.Limits.{verdict}
 use Rattle.tables.specs.Width.{recordWidth}
 use Rattle.tables.specs.Places.{recordCount}
 use Rattle.tables.specs.Named.{namedAt}
-use Rattle.tables.specs.Blank.{Room, zeros, blanked}
+use Rattle.tables.specs.Blank.{zeros, blanked}
 use Rattle.tables.specs.Meaning.Names.{loads}
 use Rattle.tables.proofs.Meaning.{says-named-at}
 use Rattle.frames.specs.Held.{Standing, Asked}
 use Rattle.frames.specs.Table.{recordAt, renamed}
-use Rattle.moments.specs.Tables.{clear, rightRecord, fresh, roomRefusal}
-use Rattle.moments.specs.Opening.{openRefusal, answered, Opened}
-use Rattle.moments.specs.Changing.{changeNumber, rewritten, floorAfter, tableAfter, Changed}
+use Rattle.moments.specs.Tables.{clear, rightRecord, fresh}
+use Rattle.moments.specs.Opening.{openRefusal, Opened}
+use Rattle.moments.specs.Changing.{changeNumber, rewritten, Changed}
 use Rattle.moments.specs.InHand.{Roomy, Rewriting}
 use Rattle.moments.proofs.Fresh.{both-zero, room-of, right-clear}
 use Rattle.moments.proofs.Demand.{taken-of}

@@ -1,10 +1,7 @@
 // A floor and its lent table: opening, and changes. Nothing is remembered: each call judges the floor afresh.
 ghost use mathlib.Core.Path.{_≡_};
-ghost use mathlib.Core.Bool.{_&&_};
-ghost use lib.Dec.{eqb};
-ghost use lib.ListN.{length};
-ghost use Rattle.moments.specs.Tables.{clear, fresh, roomRefusal};
-ghost use Rattle.moments.specs.Opening.{openRefusal, answered, Opened};
+ghost use Rattle.moments.specs.Tables.{fresh, roomRefusal};
+ghost use Rattle.moments.specs.Opening.{openRefusal, Opened};
 ghost use Rattle.moments.specs.Changing.{changeNumber, rewritten, Changed};
 ghost use Rattle.moments.specs.InHand.{Roomy, Rewriting};
 use floor::refusal;

@@ -1,15 +1,13 @@
 -- Two inputs longer than any floor, with the same length modulo 16 and the same first record, have the same refusal: 1, 2 or 3. No floor asks
 -- for more than 223 records, so check 3 fails of both, and 1 and 2 look at nothing else.
 -- Assumes nothing.
-use Prim.Native.Nat.{ℕ, _*_, _%_, _≤_, _<_}
-use mathlib.Core.Bool.{Bool, true, false}
+use Prim.Native.Nat.{ℕ, _%_, _<_}
+use mathlib.Core.Bool.{false}
 use mathlib.Core.List.{List}
-use mathlib.Core.Path.{_≡_, refl, sym, _∙_}
+use mathlib.Core.Path.{_≡_}
 use native.Mathlib.Omega.{arith}
-use lib.Dec.{eqb, leb}
 use lib.ListN.{length, getD}
 use borrow.Author.Tests.{ne-eqb, le-leb}
-use Rattle.records.specs.Kinds.{total}
 use Rattle.records.proofs.Places.{total-most}
 use Rattle.plan.specs.declared.ways.Way.the-variants.{X, Y}
 use Rattle.plan.specs.Fields.{le16, le32}

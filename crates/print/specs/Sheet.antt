@@ -1,7 +1,7 @@
 -- "It reads a floor from standard input and prints refusal number, a space, verdict; at verdict 0 then one line per record, sixteen numbers,
 -- spaces between."
 -- Assumes nothing.
-use Prim.Native.Nat.{ℕ, _≤_}
+use Prim.Native.Nat.{ℕ}
 use mathlib.Core.Bool.{cond}
 use mathlib.Core.List.{List, [], _∷_, _++_}
 use mathlib.Core.Path.{_≡_}

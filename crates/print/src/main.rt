@@ -1,6 +1,5 @@
 // The printing program (01): a floor from standard input; its refusal and verdict; at verdict 0 its table, a line for each record.
-ghost use Prim.Native.Nat.{_≤_, _<_};
-ghost use lib.ListN.{length};
+ghost use Prim.Native.Nat.{_<_};
 ghost use Rattle.sheets.specs.Wrote.{Wrote};
 ghost use Rattle.print.specs.Sheet.{sheetText, Space};
 use libc::STDIN_FILENO;

@@ -8,7 +8,7 @@ use mathlib.Core.Bool.{Bool, true, false, cond, false≢true}
 use mathlib.Core.Path.{_≡_, refl, sym, _∙_}
 use native.Mathlib.Nat.{le-trans}
 use native.Mathlib.Omega.{arith}
-use lib.Dec.{eqb, lit<, lit≤}
+use lib.Dec.{eqb, lit≤}
 use borrow.Author.Needs.{needs}
 use Rattle.numbers.proofs.Bounded.{_⊗_}
 use Rattle.numbers.proofs.Rounded.{share≤}
@@ -16,8 +16,6 @@ use Rattle.floor.specs.declared.layout.Layout.{Layout}
 use Rattle.rules.specs.declared.endspan.SpanPlace.{SpanPlace}
 use Rattle.rules.specs.declared.endspan.SpanPlace.the-variants.{OuterEnd, Between, InnerEnd}
 use Rattle.rules.specs.MomentRanges.{Crossing, ShareRatios}
-use Rattle.rules.specs.EndTable.{innerPercent, endPercent}
-use Rattle.rules.specs.Ratios.{torsionRatio}
 use Rattle.rules.specs.Strips.{part, split}
 use Rattle.rules.proofs.EndTable.{percent-most, inner-most, end-balance, inner-balance}
 use Rattle.rules.proofs.Ratios.{torsion-most}

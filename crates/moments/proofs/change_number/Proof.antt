@@ -2,7 +2,6 @@
 -- Assumes nothing.
 use borrow.Author.Needs.{needs}
 use mathlib.Core.Path.{sym, _∙_}
-use native.Mathlib.Omega.{arith}
 use Rattle.moments.specs.Changing.{changeNumber}
 use Rattle.moments.proofs.Ways.{earlier, later}
 use Rattle.moments.proofs.change_number.Statement.{statement}

@@ -2,7 +2,6 @@
 -- Assumes nothing.
 use borrow.Author.Needs.{needs}
 use mathlib.Core.Path.{sym, _∙_}
-use native.Mathlib.Omega.{arith}
 use Rattle.moments.specs.Opening.{openRefusal}
 use Rattle.moments.proofs.Ways.{earlier, later}
 use Rattle.moments.proofs.open_refusal.Statement.{statement}

@@ -1,10 +1,9 @@
 -- The changes that are left go down; both buffers keep their length.
 -- Assumes nothing.
 use borrow.Author.Needs.{needs}
-use lib.ListN.{length, length-take}
-use native.Mathlib.Omega.{arith}
+use lib.ListN.{length}
 use mathlib.Core.Path.{_≡_}
-use Prim.Native.Nat.{_-_, _≤_}
+use Prim.Native.Nat.{_-_}
 use Rattle.replay.proofs.all_changes.Statement.{statement}
 use Rattle.replay.proofs.all_changes.Tie as tie
 

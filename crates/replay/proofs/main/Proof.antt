@@ -1,10 +1,6 @@
 -- The turns that are left go down.
 -- Assumes nothing.
 use borrow.Author.Needs.{needs}
-use lib.ListN.{length, length-take}
-use native.Mathlib.Omega.{arith}
-use mathlib.Core.Path.{_≡_}
-use Prim.Native.Nat.{_-_, _≤_}
 use Rattle.replay.proofs.main.Statement.{statement}
 use Rattle.replay.proofs.main.Tie as tie
 

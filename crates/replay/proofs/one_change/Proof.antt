@@ -1,9 +1,7 @@
 -- The part has the length that was tested.
 -- Assumes nothing.
-use lib.ListN.{length, length-take}
+use lib.ListN.{length-take}
 use native.Mathlib.Omega.{arith}
-use mathlib.Core.Path.{_≡_}
-use Prim.Native.Nat.{_-_, _≤_}
 use borrow.Author.Needs.{needs}
 use Rattle.replay.proofs.one_change.Statement.{statement}
 use Rattle.replay.proofs.one_change.Tie as tie

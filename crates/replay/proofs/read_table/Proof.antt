@@ -1,10 +1,9 @@
 -- The index rises to the length, which a store leaves.
 -- Assumes nothing.
 use borrow.Author.Needs.{needs}
-use lib.ListN.{length, length-take}
-use native.Mathlib.Omega.{arith}
+use lib.ListN.{length}
 use mathlib.Core.Path.{_≡_}
-use Prim.Native.Nat.{_-_, _≤_}
+use Prim.Native.Nat.{_-_}
 use Rattle.replay.proofs.read_table.Statement.{statement}
 use Rattle.replay.proofs.read_table.Tie as tie
 

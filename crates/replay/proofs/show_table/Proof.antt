@@ -1,9 +1,8 @@
 -- The index rises to the length.
 -- Assumes nothing.
 use borrow.Author.Needs.{needs}
-use lib.ListN.{length, length-take}
+use lib.ListN.{length}
 use native.Mathlib.Omega.{arith}
-use mathlib.Core.Path.{_≡_}
 use Prim.Native.Nat.{_-_, _≤_}
 use Rattle.replay.proofs.show_table.Statement.{statement}
 use Rattle.replay.proofs.show_table.Tie as tie
