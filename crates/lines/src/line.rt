@@ -1,7 +1,7 @@
 // The lines of an accepted floor: the frame width W of one, and α.
 ghost use mathlib.Core.Path.{_≡_};
 ghost use Prim.Native.Nat.{_≤_};
-ghost use Rattle.floor.specs.Refusal.{refusal};
+ghost use Rattle.floor.specs.Fair.{Accepted};
 ghost use Rattle.rules.specs.Sizes.{Frame};
 ghost use Rattle.lines.specs.Lines.{outer, below, lineWidth, lineAlpha};
 ghost use Rattle.lines.specs.Held.{OnLine, Alphas, Pair, pairAt};
@@ -53,7 +53,7 @@ pub fn line_alpha(f: &[u8], d: Way, l: u32) -> u64
 
 // α of every line along d. A line borders two rows of panels, so each is worked out once for all of them.
 pub fn alphas(f: &[u8], d: Way) -> [u64; 13]
-    requires { ⌜ refusal (now f) ≡ 0 ⌝ }
+    requires { ⌜ Accepted (now f) ⌝ }
     ensures { λ r. ⌜ Alphas (now (f .entry)) d r ⌝ }
 {
     let mut a = [0u64; 13];

@@ -6,7 +6,6 @@ use mathlib.Core.Bool.{Bool, false, cond, _&&_, true≢false}
 use mathlib.Core.List.{List}
 use mathlib.Core.Path.{_≡_, refl, sym, ap, _∙_}
 use mathlib.Core.Logic.{inl, inr}
-use native.Mathlib.Decide.{decLt}
 use native.Mathlib.Omega.{arith}
 use lib.ListN.{length}
 use borrow.Author.Tests.{eq-eqb}
@@ -52,9 +51,6 @@ pub length-fresh : (f t : List ℕ) → recordCount f * recordWidth ≤ length t
 unfolding fresh
 length-fresh f t room = length-written recordWidth every (rightRecord f) (right-full f) (recordCount f) t room
 
-not-lt→le : {m n : ℕ} → ¬ (n < m) → m ≤ n
-not-lt→le {m} {n} h = elim (decLt n m) [ yes l ↦ absurd (h l) | no l ↦ omega arith ]
-
 -- a number that is 0 was given by neither
 pub both-zero : (a b : ℕ) → orElse a b ≡ 0 → (a ≡ 0) × (b ≡ 0)
 unfolding orElse
@@ -88,8 +84,8 @@ module _ (f c : List ℕ) (t : Taken f c) where
   wide e = by-way (clear f (t .held) .0 e .one)
     where
       by-way : ¬ Few f → (d : Way) → 3 ≤ bays f d
-      by-way n X = not-lt→le (λ h. n (inl h))
-      by-way n Y = not-lt→le (λ h. n (inr h))
+      by-way n X = let h : ¬ (bays f X < 3) = λ q. n (inl q) in omega arith
+      by-way n Y = let h : ¬ (bays f Y < 3) = λ q. n (inr q) in omega arith
 
   -- a record that is not named is the same before and after
   same-record : (k : ℕ) → k < recordCount f → verdict f ≡ 0 → namedAt g (changeKind c) (changeIndex c) k ≡ false → recordAt f k ≡ recordAt g k

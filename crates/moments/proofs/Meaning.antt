@@ -7,13 +7,14 @@ use mathlib.Core.Path.{_≡_, refl, sym, subst, _∙_}
 use lib.ListN.{length}
 use borrow.Author.Tests.{ne-eqb}
 use Rattle.numbers.specs.Tests.{Says}
-use Rattle.numbers.proofs.Tests.{says-eq, says-and, fails}
+use Rattle.numbers.proofs.Tests.{says-eq, says-and, by-says, fails}
 use Rattle.floor.specs.Refusal.{refusal}
 use Rattle.changes.specs.Change.{changeKind, changeIndex, changed}
 use Rattle.verdict.specs.declared.Answer.{Answer}
 use Rattle.verdict.specs.Answers.{answer}
 use Rattle.verdict.specs.Limits.{verdict}
 use Rattle.verdict.proofs.Meaning.{broken, broken-one}
+use Rattle.verdict.proofs.Answers.{same-answer}
 use Rattle.tables.specs.Width.{recordWidth}
 use Rattle.tables.specs.Places.{recordCount}
 use Rattle.moments.specs.Tables.{clear}
@@ -23,23 +24,20 @@ use Rattle.moments.specs.Meaning.{TableOf, NamedOf, Judged, OpeningSays,
 use Rattle.moments.proofs.Fresh.{both-zero, room-of, count-kept}
 use Rattle.moments.proofs.Demand.{taken-of}
 use Rattle.moments.proofs.Room.{given-opening, given-changing}
-use Rattle.moments.proofs.Numbers.{either, table-of, named-of, table-of-one, named-of-one}
+use Rattle.moments.proofs.Numbers.{table-of, named-of, table-of-one, named-of-one}
 
 -- ---- the answer
 
 pub judged : (g : List ℕ) (number : ℕ) → (number ≡ 0 → refusal g ≡ 0) → Judged g number (answered number (verdict g))
 judged g number accepted =
-    either (says-eq number 0)
+    by-says (says-eq number 0)
     (λ z. rw z (record { refusal = refl; refused = λ ne. absurd (ne refl); verdict = λ _. broken g (accepted z) }))
     (λ ne. rw (ne-eqb number 0 ne) (record { refusal = refl; refused = λ _. refl; verdict = λ z. absurd (ne z) }))
 
-same-answer : {a b : Answer} → a .refusal ≡ b .refusal → a .value ≡ b .value → a ≡ b
-same-answer e v = λ i. record { refusal = e i; value = v i }
-
 pub judged-one : {g : List ℕ} {number : ℕ} {a b : Answer} → Judged g number a → Judged g number b → a ≡ b
 judged-one {g} {number} p q =
-    same-answer (p .refusal ∙ sym (q .refusal))
-    (either (says-eq number 0) (λ z. broken-one (p .verdict z) (q .verdict z)) (λ ne. p .refused ne ∙ sym (q .refused ne)))
+    same-answer _ _ (p .refusal ∙ sym (q .refusal))
+    (by-says (says-eq number 0) (λ z. broken-one (p .verdict z) (q .verdict z)) (λ ne. p .refused ne ∙ sym (q .refused ne)))
 
 -- ---- opening
 
@@ -58,7 +56,7 @@ pub opening-one : {f t : List ℕ} {a b : Answer} {u v : List ℕ} → OpeningSa
 opening-one {f} {t} {a} {b} {u} {v} p q =
     let e : p .number ≡ q .number = sym (given-opening _ f (length t) .1 (p .given)) ∙ given-opening _ f (length t) .1 (q .given) in (
       judged-one (p .answer) (subst (λ n. Judged f n b) (sym e) (q .answer)),
-      either (says-eq (p .number) 0) (λ z. table-of-one f (p .filled z) (q .filled (sym e ∙ z)))
+      by-says (says-eq (p .number) 0) (λ z. table-of-one f (p .filled z) (q .filled (sym e ∙ z)))
           (λ ne. p .refused ne ∙ sym (q .refused (λ z. ne (e ∙ z)))),
     )
 
@@ -102,9 +100,9 @@ module _ (f t c : List ℕ) where
   change-one {a} {b} {h} {k} {u} {v} p q =
       let e : p .number ≡ q .number = sym (given-changing _ f (length t) c .1 (p .given)) ∙ given-changing _ f (length t) c .1 (q .given) in (
         judged-one (p .answer) (subst (λ n. Judged g n b) (sym e) (q .answer)),
-        either (says-eq (p .number) 0) (λ z. p .taken z ∙ sym (q .taken (sym e ∙ z))) (λ ne. p .refused ne .0 ∙ sym (q .refused (λ z. ne (e ∙ z)) .0)),
-        either (says-eq (p .number) 0)
-            (λ z. either both-clear
+        by-says (says-eq (p .number) 0) (λ z. p .taken z ∙ sym (q .taken (sym e ∙ z))) (λ ne. p .refused ne .0 ∙ sym (q .refused (λ z. ne (e ∙ z)) .0)),
+        by-says (says-eq (p .number) 0)
+            (λ z. by-says both-clear
             (λ y. named-of-one g (p .some z (y .0) (y .1)) (q .some (sym e ∙ z) (y .0) (y .1)))
             (λ no. table-of-one g (p .whole z no) (q .whole (sym e ∙ z) no)))
             (λ ne. p .refused ne .1 ∙ sym (q .refused (λ z. ne (e ∙ z)) .1)),

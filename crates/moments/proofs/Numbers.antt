@@ -2,14 +2,14 @@
 -- A record is found by its span and a span by its record (crate tables, Numbered), so two tables alike at every span are equal.
 -- Assumes nothing.
 use Prim.Native.Nat.{ℕ, _*_, _≤_, _<_}
-use mathlib.Core.Bool.{Bool, true, cond}
+use mathlib.Core.Bool.{cond}
 use mathlib.Core.List.{List}
 use mathlib.Core.Path.{_≡_, sym, ap, _∙_}
 use native.Mathlib.Omega.{arith}
 use lib.ListN.{length, getD, getD-replicate}
 use Rattle.numbers.specs.Records.{every}
 use Rattle.numbers.specs.Tests.{Says}
-use Rattle.numbers.proofs.Tests.{says-eq, by-test, fails}
+use Rattle.numbers.proofs.Tests.{says-eq, by-test, by-says, fails}
 use Rattle.numbers.proofs.Written.{length-written, written-past, written-at, same-records}
 use Rattle.verdict.specs.Limits.{verdict}
 use Rattle.spans.specs.Sixteen.{sixteen}
@@ -24,10 +24,6 @@ use Rattle.frames.specs.Table.{viewIn, viewAt, recordAt, renamed}
 use Rattle.moments.specs.Tables.{rightRecord, fresh}
 use Rattle.moments.specs.Meaning.{numberIn, TableOf, NamedOf}
 use Rattle.moments.proofs.Fresh.{record-full, right-full, right-clear, length-fresh}
-
--- what a test decides
-pub either : {b : Bool} {P G : Type 0} → Says b P → (P → G) → (¬ P → G) → G
-either {G = G} s to else = by-test {x = true} {y = true} (λ _. G) s to else
 
 module _ (f : List ℕ) where
   -- two tables of one length, alike at every span and past the records
@@ -84,11 +80,11 @@ module _ (f : List ℕ) where
   pub table-of-one : {t u v : List ℕ} → TableOf f t u → TableOf f t v → u ≡ v
   table-of-one {t} {u} {v} a b =
       by-places u v (a .same-length ∙ sym (b .same-length))
-      (λ p h n hn. either (says-eq (verdict f) 0) (λ e. a .stands e p h n hn ∙ sym (b .stands e p h n hn)) (λ ne. a .broken ne p h n hn ∙ sym (b .broken ne p h n hn)))
+      (λ p h n hn. by-says (says-eq (verdict f) 0) (λ e. a .stands e p h n hn ∙ sym (b .stands e p h n hn)) (λ ne. a .broken ne p h n hn ∙ sym (b .broken ne p h n hn)))
       (λ i h. a .past i h ∙ sym (b .past i h))
 
   pub named-of-one : {kind index : ℕ} {t u v : List ℕ} → NamedOf f kind index t u → NamedOf f kind index t v → u ≡ v
   named-of-one {kind} {index} {t} {u} {v} a b =
       by-places u v (a .same-length ∙ sym (b .same-length))
-      (λ p h n hn. either (says-named f kind index h) (λ q. a .named p h q n hn ∙ sym (b .named p h q n hn)) (λ q. a .others p h q n hn ∙ sym (b .others p h q n hn)))
+      (λ p h n hn. by-says (says-named f kind index h) (λ q. a .named p h q n hn ∙ sym (b .named p h q n hn)) (λ q. a .others p h q n hn ∙ sym (b .others p h q n hn)))
       (λ i h. a .past i h ∙ sym (b .past i h))

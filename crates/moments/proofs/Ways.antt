@@ -1,7 +1,7 @@
 -- Each way out of opening and of a change, with what was answered on it as premises; and the whole table, written by naming all or by zeros.
 -- Assumes nothing.
 use Prim.Native.Nat.{ℕ}
-use mathlib.Core.Bool.{Bool, true, false, _&&_, false≢true}
+use mathlib.Core.Bool.{Bool, true, false, _&&_}
 use mathlib.Core.List.{List}
 use mathlib.Core.Path.{_≡_, refl, sym, ap, _∙_}
 use native.Mathlib.Omega.{arith}
@@ -9,6 +9,7 @@ use lib.Dec.{eqb}
 use lib.ListN.{length}
 use borrow.Author.Tests.{ne-eqb, eqb-true, eqb-false}
 use Rattle.numbers.specs.Records.{every}
+use Rattle.numbers.proofs.Tests.{says-itself, says-and}
 use Rattle.numbers.proofs.Written.{same-written}
 use Rattle.records.specs.Kinds.{countOf}
 use Rattle.floor.specs.Refusal.{refusal}
@@ -32,10 +33,6 @@ use Rattle.moments.specs.InHand.{Roomy, Rewriting}
 use Rattle.moments.proofs.Fresh.{both-zero, room-of, right-clear}
 use Rattle.moments.proofs.Demand.{taken-of}
 use Rattle.moments.proofs.Meaning.{room-after}
-
-and-right : (a b : Bool) → (a && b) ≡ true → b ≡ true
-and-right true b e = e
-and-right false b e = absurd (false≢true e)
 
 -- ---- a refusal that stands, and one that is tried after it
 
@@ -77,7 +74,7 @@ module _ (f t : List ℕ) where
 -- by a change of a record that is there, where the verdict before was clear or not
 module _ (f t : List ℕ) (before : Bool) {after both : Bool} {kind index : ℕ} (h : Rewriting f t after kind index) (e : both ≡ (before && after)) where
   after-clear : both ≡ true → after ≡ true
-  after-clear q = and-right before after (sym e ∙ q)
+  after-clear q = says-and (says-itself before) (says-itself after) .holds (sym e ∙ q) .1
 
   pub named-standing : both ≡ true → Standing f t
   named-standing q = standing f t (h .roomy) (after-clear q)

@@ -3,7 +3,7 @@
 --     none, more, found, done     the loop's four places: entry, one turn more, an early answer, its end
 --     at, intro                   a test of every number, taken apart and put together
 --     says-..                     the parts of a test: a law of meaning is one term of these
---     by-test, fails              a test whose meaning is known, put to use
+--     by-test, by-says, fails     a test whose meaning is known, put to use
 -- Assumes nothing.
 use mathlib.Core.Bool.{Bool, true, false, not, cond, _||_, _&&_, false≢true}
 use mathlib.Core.Path.{_≡_, refl, sym, subst, _∙_}
@@ -129,6 +129,10 @@ fails s q = not-true _ (says-not s .passes q)
 pub by-test : {b : Bool} {P A : Type 0} {x y : A} (G : A → Type 0) → Says b P → (P → G x) → ((P → ⊥) → G y) → G (cond b x y)
 by-test {b = true} G s to else = to (s .holds refl)
 by-test {b = false} G s to else = else (λ p. false≢true (s .passes p))
+
+-- what a test decides: P holds or not
+pub by-says : {b : Bool} {P G : Type 0} → Says b P → (P → G) → ((P → ⊥) → G) → G
+by-says {G = G} s to else = by-test {x = true} {y = true} (λ _. G) s to else
 
 -- one more number: below n, or n itself
 below-suc : {n : ℕ} (P : ℕ → Type 0) → All n P → P n → All (suc n) P

@@ -1,6 +1,6 @@
 // Small decisions that every layer makes.
 ghost use mathlib.Core.Path.{_≡_};
-ghost use mathlib.Core.Bool.{_&&_};
+ghost use mathlib.Core.Bool.{_&&_, _||_};
 ghost use Prim.Native.Nat.{min, max};
 ghost use Rattle.numbers.specs.Tests.{same};
 
@@ -16,11 +16,17 @@ pub fn larger(a: u64, b: u64) -> u64
     if a < b { b } else { a }
 }
 
-// Both of two tests that are already answered: a caller of it has no branch, and its proof no cases.
+// Both, or either, of two tests that are already answered: a caller of it has no branch, and its proof no cases.
 pub fn both(a: bool, b: bool) -> bool
     ensures { λ r. ⌜ r ≡ (a && b) ⌝ }
 {
     a && b
+}
+
+pub fn either(a: bool, b: bool) -> bool
+    ensures { λ r. ⌜ r ≡ (a || b) ⌝ }
+{
+    a || b
 }
 
 pub fn same(a: bool, b: bool) -> bool

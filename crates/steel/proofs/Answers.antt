@@ -14,6 +14,7 @@ use Rattle.numbers.specs.Least.{Least, least-one}
 use Rattle.numbers.proofs.Tests.{says-lt, by-test}
 use Rattle.verdict.specs.declared.Answer.{Answer}
 use Rattle.verdict.specs.Answers.{answer}
+use Rattle.verdict.proofs.Answers.{same-answer}
 use Rattle.steel.specs.declared.search.Limits.{Limits}
 use Rattle.steel.specs.Answered.{Answered}
 use Rattle.steel.specs.Search.{Within, firstWithin, leastWithin, Searchable}
@@ -21,10 +22,6 @@ use Rattle.steel.specs.Steel.{SteelAnswer, steelOf}
 use Rattle.steel.proofs.Ranges.{says-in-range, strain-range}
 use Rattle.steel.proofs.Within.{least-within, none-within}
 use Rattle.steel.proofs.Bounds.{meets-within, searchable}
-
--- an answer is its two numbers
-same-answer : (a b : Answer) → a .refusal ≡ b .refusal → a .value ≡ b .value → a ≡ b
-same-answer a b p q = let e : answer (a .refusal) (a .value) ≡ answer (b .refusal) (b .value) = cc in e
 
 module _ {Ok : Type 0} {P : ℕ → Type 0} where
   outside : ¬ Ok → Answered Ok P (answer 11 0)

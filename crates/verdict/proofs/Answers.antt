@@ -4,14 +4,12 @@
 --     panel-answer, panel-answer-one   a refusal with 0, 10 with 0, or 0 and the panel's least thickness
 -- Assumes nothing.
 use Prim.Native.Nat.{ℕ}
-use mathlib.Core.Bool.{Bool, true, false, false≢true}
 use mathlib.Core.List.{List}
 use mathlib.Core.Logic.{_↔_}
 use mathlib.Core.Path.{_≡_, refl}
 use native.Mathlib.Omega.{arith}
 use Rattle.numbers.specs.Least.{least-one}
-use Rattle.numbers.specs.Tests.{Says}
-use Rattle.numbers.proofs.Tests.{says-eq, by-test}
+use Rattle.numbers.proofs.Tests.{says-eq, by-test, by-says}
 use Rattle.floor.specs.Refusal.{refusal}
 use Rattle.lines.proofs.Floors.{panel-least}
 use Rattle.verdict.specs.declared.Answer.{Answer}
@@ -19,13 +17,8 @@ use Rattle.verdict.specs.Answers.{answer, judged, Judgement, panelOf, Pa
 use Rattle.verdict.proofs.AtPlace.{says-panel}
 use Rattle.verdict.proofs.Meaning.{broken, broken-one}
 
--- what a test says holds or not
-by-says : {b : Bool} {P G : Type 0} → Says b P → (P → G) → (¬ P → G) → G
-by-says {b = true} s to else = to (s .holds refl)
-by-says {b = false} s to else = else (λ p. false≢true (s .passes p))
-
 -- an answer is its two numbers
-same-answer : (a b : Answer) → a .refusal ≡ b .refusal → a .value ≡ b .value → a ≡ b
+pub same-answer : (a b : Answer) → a .refusal ≡ b .refusal → a .value ≡ b .value → a ≡ b
 same-answer a b p q = let e : answer (a .refusal) (a .value) ≡ answer (b .refusal) (b .value) = cc in e
 
 module _ (f : List ℕ) where

@@ -11,11 +11,7 @@ use Rattle.lines.specs.Held.{Ready}
 use Rattle.verdict.specs.declared.places.Limit.{Limit}
 use Rattle.verdict.specs.Places.{along, across}
 
--- none of refusals 1 to 7
-pub record Accepted (f : List ℕ) : Type 0 where
-  pub accepted : refusal f ≡ 0
-
--- and a panel of it
+-- an accepted floor and a panel of it
 pub record InPanel (f : List ℕ) (i j : ℕ) : Type 0 where
   pub accepted : refusal f ≡ 0
   pub x-bay : i < bays f X

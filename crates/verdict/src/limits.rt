@@ -5,15 +5,9 @@ ghost use Prim.Native.Nat.{_*_, _≤_};
 ghost use lib.Dec.{ltb};
 ghost use Rattle.verdict.specs.Held.{Shares};
 ghost use Rattle.verdict.specs.Limits.{slender, unlike, unequal, bit, sumOf};
+use numbers::either;
 use numbers::larger;
 use numbers::smaller;
-
-// Either of two tests that are already answered: a caller of it has no branch, and its proof no cases.
-pub fn either(a: bool, b: bool) -> bool
-    ensures { λ r. ⌜ r ≡ (a || b) ⌝ }
-{
-    a || b
-}
 
 // 2
 pub fn slender(x: u32, y: u32) -> bool

@@ -6,11 +6,13 @@ ghost use Rattle.floor.specs.Layouts.{layoutOf};
 ghost use Rattle.lines.specs.Held.{Ready, AtPanel};
 ghost use Rattle.verdict.specs.Limits.{slenderPanel, unlike, offsetAt, astrayAt, unequalPanel, thinPanel};
 ghost use Rattle.verdict.specs.Places.{breaks, along, across, someInRow, somewhere};
-ghost use Rattle.verdict.specs.Held.{Accepted, Share, Row, Place};
+ghost use Rattle.floor.specs.Fair.{Accepted};
+ghost use Rattle.verdict.specs.Held.{Share, Row, Place};
 use crate::limits;
 use floor::layout::Layout;
 use lines::line::pair_alpha;
 use lines::panel::panel_thickness;
+use numbers::either;
 use plan::span;
 use plan::ways::Way;
 
@@ -49,7 +51,7 @@ fn astray_at(f: &[u8], d: Way, k: u32, m: u32) -> bool
     ensures { λ r. ⌜ r ≡ astrayAt (now (f .entry)) d k m ⌝ }
 {
     let s = span(f, d, k);
-    limits::either(
+    either(
         limits::exceeds(offset_at(f, d, k, m), s),
         limits::exceeds(offset_at(f, d, k + 1, m), s),
     )

@@ -32,4 +32,4 @@ alphas-spec =
     (λ c. search needs)
     (λ c. let p = c .before .before .loop in
     (search needs, search needs, length-set (p .a) (p .l) _ ∙ p .inv .2, one-more _ _ (p .l) (p .a) (p .inv .3) (omega arith) (c .line-alpha .ensures .0)))
-    (λ c. filled (c .before .before .before .before .pre) (λ l q. c .before .loop .inv .3 l (omega arith))))
+    (λ c. filled (c .before .before .before .before .pre .accepted) (λ l q. c .before .loop .inv .3 l (omega arith))))
