@@ -19,7 +19,7 @@ use Rattle.spans.specs.declared.view.View.{View}
 unfoldable pub slabView : List ℕ → SlabView
 slabView f = record { dead = dead f; live = live f; t = thickness f; layout = layoutOf f }
 
--- "x frames": the column along the line is the one that its clear lengths lose, the column across the one that its widths gain
+-- the column along the line is what its clear lengths lose, the column across what its widths gain past an outer line
 unfoldable pub lineView : List ℕ → Way → ℕ → LineView
 lineView f d l =
     record {
