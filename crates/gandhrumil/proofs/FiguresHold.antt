@@ -1,4 +1,4 @@
--- The starred figures of 01 are what the definitions make: were one of them wrong, the claim would fail with its name.
+-- The starred figures of 01 are what the definitions make, by computing: were one of them wrong, the claim would fail.
 -- Assumes nothing.
 use mathlib.Core.List.{[]}
 use mathlib.Core.Path.{_≡_, refl}
