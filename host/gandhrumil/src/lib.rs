@@ -1,0 +1,59 @@
+//! The four calls of the static library (`include/gandhrumil.h`), as safe functions of slices.
+//!
+//! Every call takes any bytes, any lengths and any numbers. What each answers and writes is said in the header, and proved.
+
+mod calls;
+
+pub use calls::Answer;
+
+/// Opens a floor and fills its table.
+pub fn open(floor: &[u8], table: &mut [u32]) -> Answer {
+    // SAFETY: both slices are lent for the call, with their own lengths, and cannot overlap.
+    unsafe {
+        calls::gandhrumil_open(
+            floor.as_ptr(),
+            floor.len(),
+            table.as_mut_ptr(),
+            table.len(),
+        )
+    }
+}
+
+/// Changes one record of a floor, and its table with it.
+pub fn change(floor: &mut [u8], table: &mut [u32], change: &[u8]) -> Answer {
+    // SAFETY: the three slices are lent for the call, with their own lengths, and cannot overlap.
+    unsafe {
+        calls::gandhrumil_change(
+            floor.as_mut_ptr(),
+            floor.len(),
+            table.as_mut_ptr(),
+            table.len(),
+            change.as_ptr(),
+            change.len(),
+        )
+    }
+}
+
+/// The least thickness of the panel of x bay `x` and y bay `y`.
+pub fn panel(floor: &[u8], x: u64, y: u64) -> Answer {
+    // SAFETY: the slice is lent for the call, with its own length.
+    unsafe { calls::gandhrumil_panel(floor.as_ptr(), floor.len(), x, y) }
+}
+
+/// A steel query: the moment in N·cm; width, thickness and depth in mm; concrete and steel in MPa.
+#[derive(Clone, Copy, Debug, PartialEq, Eq)]
+pub struct Query {
+    pub m: u64,
+    pub b: u64,
+    pub t: u64,
+    pub d: u64,
+    pub fc: u64,
+    pub fy: u64,
+}
+
+/// The least area of steel that carries the moment within the limits.
+pub fn steel(query: Query) -> Answer {
+    let Query { m, b, t, d, fc, fy } = query;
+    // SAFETY: the call takes any numbers and touches no memory.
+    unsafe { calls::gandhrumil_steel(m, b, t, d, fc, fy) }
+}
