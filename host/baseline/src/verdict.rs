@@ -1,0 +1,79 @@
+//! "The verdict": each limit answers whether it is broken.
+
+use crate::floor::{Floor, MOST_BAYS, MOST_LINES, X, Y};
+use crate::judge::Layout;
+use crate::lines::Stiffness;
+use crate::thickness::too_thin;
+
+pub fn verdict(floor: &Floor, layout: Layout, stiffness: &Stiffness) -> u32 {
+    u32::from(floor.bays[X] < 3 || floor.bays[Y] < 3)
+        + 2 * u32::from(too_long(floor))
+        + 4 * u32::from(too_different(floor.spans(X)) || too_different(floor.spans(Y)))
+        + 8 * u32::from(too_far_off(floor, X) || too_far_off(floor, Y))
+        + 16 * u32::from(floor.live > 2 * floor.dead)
+        + 32 * u32::from(layout == Layout::Everywhere && too_unlike(floor, stiffness))
+        + 64 * u32::from(too_thin(floor, layout, stiffness))
+}
+
+/// The least and the largest.
+fn ends<T: Ord + Copy>(numbers: &[T]) -> (T, T) {
+    let first = (numbers[0], numbers[0]);
+    let wider = |(low, high): (T, T), &number: &T| (number.min(low), number.max(high));
+    numbers.iter().fold(first, wider)
+}
+
+/// 2: "in a panel, longer span > 2·shorter." Every x span meets every y span in a panel.
+fn too_long(floor: &Floor) -> bool {
+    let (least_x, most_x) = ends(floor.spans(X));
+    let (least_y, most_y) = ends(floor.spans(Y));
+    most_x > 2 * least_y || most_y > 2 * least_x
+}
+
+/// 4: "for neighbouring spans in a direction, 3(longer − shorter) > longer."
+fn too_different(spans: &[u32]) -> bool {
+    spans.windows(2).any(|pair| {
+        let (shorter, longer) = ends(pair);
+        3 * (longer - shorter) > longer
+    })
+}
+
+/// 8: "ten times an offset exceeds a span adjoining that column in its direction."
+fn too_far_off(floor: &Floor, way: usize) -> bool {
+    let spans = floor.spans(way);
+    // The shorter span that adjoins each line across the direction.
+    let mut adjoining = [u32::MAX; MOST_LINES];
+    for (bay, &span) in spans.iter().enumerate() {
+        adjoining[bay] = adjoining[bay].min(span);
+        adjoining[bay + 1] = span;
+    }
+    let rows = floor.offsets(way).chunks_exact(floor.lines(Y));
+    let far = |offset: u32, span: u32| 10 * offset > span;
+    if way == X {
+        let row_far = |row: &[u32]| {
+            let columns = row.iter().zip(&adjoining);
+            columns.fold(false, |some, (&offset, &span)| some | far(offset, span))
+        };
+        rows.fold(false, |some, row| some | row_far(row))
+    } else {
+        let row_most = |row: &[u32]| row.iter().fold(0, |most, &offset| offset.max(most));
+        rows.zip(adjoining)
+            .any(|(row, span)| far(row_most(row), span))
+    }
+}
+
+/// 32: "in a panel p > 5q or q > 5p": p is the same along a row of panels and q along a column of them.
+fn too_unlike(floor: &Floor, stiffness: &Stiffness) -> bool {
+    let Stiffness([x, y]) = stiffness;
+    let mut sides = [0; MOST_BAYS];
+    let (least_p, most_p) = sums_by_squares(&mut sides, x, floor.spans(Y));
+    let (least_q, most_q) = sums_by_squares(&mut sides, y, floor.spans(X));
+    most_p > 5 * least_q || most_q > 5 * least_p
+}
+
+/// "(sum of α of its two x lines)·Y²", the least and the largest.
+fn sums_by_squares(room: &mut [u64; MOST_BAYS], alphas: &[u64], spans: &[u32]) -> (u64, u64) {
+    for (bay, &span) in spans.iter().enumerate() {
+        room[bay] = (alphas[bay] + alphas[bay + 1]) * u64::from(span).pow(2);
+    }
+    ends(&room[..spans.len()])
+}

@@ -1,0 +1,110 @@
+//! The baseline held to the reference: every answer, and all that is left in floor and table.
+
+use baseline::Answer;
+use reference::draw::Draw;
+use reference::floor_file::RECORD_BYTES;
+use reference::floors::drawn::{self, Wanted};
+use reference::floors::{self, LAYOUTS};
+use reference::panel;
+use reference::queries;
+use reference::runs::{self, play, Played, Run, LONGEST_TABLE};
+use reference::steel;
+
+fn answer(given: Answer) -> (u128, u128) {
+    (given.refusal.into(), given.value.into())
+}
+
+fn played(run: &Run) -> Played {
+    let (mut floor, mut table) = (run.floor.clone(), run.table.clone());
+    let opening = run
+        .opens
+        .then(|| answer(baseline::open(&floor, &mut table)));
+    let changes = run.changes.iter();
+    let changes = changes.map(|change| answer(baseline::change(&mut floor, &mut table, change)));
+    Played {
+        opening,
+        changes: changes.collect(),
+        floor,
+        table,
+    }
+}
+
+fn hold_run(run: &Run) {
+    assert!(played(run) == play(run), "{}", run.description);
+}
+
+/// Opens a floor on a table of numbers that none of its records has, then leaves it as it is.
+fn opening(description: &str, floor: &[u8]) -> Run {
+    Run {
+        description: description.to_string(),
+        opens: true,
+        floor: floor.to_vec(),
+        table: vec![u32::MAX; LONGEST_TABLE],
+        changes: Vec::new(),
+    }
+}
+
+fn hold_panels(description: &str, floor: &[u8]) {
+    for (x, y) in (0..14).flat_map(|x| (0..14).map(move |y| (x, y))) {
+        let given = answer(baseline::panel(floor, x, y));
+        let right = panel::panel(floor, x.into(), y.into());
+        assert_eq!(given, right, "{description}, panel {x}, {y}");
+    }
+}
+
+#[test]
+fn every_floor() {
+    for floor in floors::all() {
+        hold_run(&opening(&floor.description, &floor.bytes));
+        hold_panels(&floor.description, &floor.bytes);
+    }
+}
+
+#[test]
+fn every_run() {
+    runs::all().iter().for_each(hold_run);
+}
+
+fn hold_query(description: &str, query: steel::Query) {
+    let [m, b, t, d, fc, fy] = query.numbers().map(|number| number as u64);
+    let given = answer(baseline::steel(baseline::Query { m, b, t, d, fc, fy }));
+    assert_eq!(given, steel::answer(query), "{description}, {query:?}");
+}
+
+#[test]
+fn every_query() {
+    for given in queries::all() {
+        hold_query(&given.description, given.query);
+    }
+}
+
+fn any_floor(draw: &mut Draw) -> Vec<u8> {
+    let (layout, _) = draw.one_of(&LAYOUTS);
+    let wanted = Wanted {
+        nx: draw.between(1, 6) as usize,
+        ny: draw.between(1, 6) as usize,
+        layout,
+        sides: (0..4).fold(0, |sum, _| 4 * sum + draw.between(0, 2)),
+    };
+    drawn::floor(draw, wanted).bytes()
+}
+
+/// Drawn floors, half of them with one byte spoilt, each changed by its own records and by a spoilt one.
+#[test]
+fn floors_drawn_and_spoilt() {
+    let mut draw = Draw::starting_at(31);
+    for number in 0..2_000 {
+        let mut floor = any_floor(&mut draw);
+        let mut changes: Vec<Vec<u8>> = floor.chunks(RECORD_BYTES).map(<[u8]>::to_vec).collect();
+        for change in &mut changes {
+            let place = draw.between(0, 15) as usize;
+            change[place] ^= draw.one_of(&[0, 1, 2, 4, 20]);
+        }
+        let place = draw.between(0, floor.len() as u128 - 1) as usize;
+        floor[place] ^= draw.one_of(&[0, 0, 0, 1, 4, 20]);
+        hold_run(&Run {
+            changes,
+            ..opening(&format!("drawn {number}"), &floor)
+        });
+    }
+}
