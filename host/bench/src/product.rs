@@ -1,0 +1,45 @@
+//! The two products that are timed, behind the same four calls.
+
+/// Refusal and value.
+pub type Answer = (u32, u32);
+
+/// M, b, t, d, fc, fy.
+pub type Query = [u64; 6];
+
+pub trait Product {
+    fn open(floor: &[u8], table: &mut [u32]) -> Answer;
+    fn change(floor: &mut [u8], table: &mut [u32], change: &[u8]) -> Answer;
+    fn panel(floor: &[u8], x: u64, y: u64) -> Answer;
+    fn steel(query: Query) -> Answer;
+}
+
+macro_rules! product {
+    ($name:ident, $library:ident) => {
+        pub struct $name;
+
+        impl Product for $name {
+            fn open(floor: &[u8], table: &mut [u32]) -> Answer {
+                let answer = $library::open(floor, table);
+                (answer.refusal, answer.value)
+            }
+
+            fn change(floor: &mut [u8], table: &mut [u32], change: &[u8]) -> Answer {
+                let answer = $library::change(floor, table, change);
+                (answer.refusal, answer.value)
+            }
+
+            fn panel(floor: &[u8], x: u64, y: u64) -> Answer {
+                let answer = $library::panel(floor, x, y);
+                (answer.refusal, answer.value)
+            }
+
+            fn steel([m, b, t, d, fc, fy]: Query) -> Answer {
+                let answer = $library::steel($library::Query { m, b, t, d, fc, fy });
+                (answer.refusal, answer.value)
+            }
+        }
+    };
+}
+
+product!(Ours, gandhrumil);
+product!(Baseline, baseline);
