@@ -40,6 +40,7 @@ pub struct Floor {
 }
 
 impl Floor {
+    #[inline]
     pub fn sized(nx: usize, ny: usize, t: u32) -> Floor {
         Floor {
             bays: [nx, ny],
@@ -102,6 +103,7 @@ impl Floor {
     }
 
     /// Puts a record's fields in; answers what it has in fields that are not listed.
+    #[inline]
     pub fn put(&mut self, kind: u32, index: usize, [a, b, c]: [u32; 3]) -> u32 {
         match kind {
             2 => (self.fc, self.fy) = (a, b),

@@ -95,8 +95,8 @@ impl Frames<'_> {
 
     fn fill_line(&self, records: &mut [[u32; 16]], line: usize, alpha: u64, named: Range<usize>) {
         let across = Across::of(self.floor, self.way, line);
-        let l2 = across.l2();
-        let cubed = l2 * u64::from(self.floor.t).pow(3);
+        let (l2, twice_width) = (across.l2(), across.twice_width());
+        let cubed = u64::from(l2) * u64::from(self.floor.t).pow(3);
         let outer = [0, 1].map(|end| End::Outer {
             side: self.sides[end],
             // "B = min(25000, 200·T/(l2·t³))"
@@ -104,25 +104,25 @@ impl Frames<'_> {
         });
         let last = records.len() - 1;
         for span in named {
-            let l1 = u64::from(self.floor.spans(self.way)[span]);
+            let l1 = self.floor.spans(self.way)[span];
             let (percents, ends) = match span {
                 0 => (self.end_percents[0], [outer[0], End::Inner]),
                 _ if span == last => (self.end_percents[1], [End::Inner, outer[1]]),
                 _ => ([65, 35, 65], [End::Inner; 2]),
             };
-            records[span] = Span {
-                load: self.load,
+            Span {
+                load: self.load * u64::from(twice_width),
                 l1,
-                column: self.floor.column[self.way].into(),
+                column: self.floor.column[self.way],
                 l2,
                 alpha,
-                twice_width: across.twice_width(),
+                twice_width,
                 // "a quarter of min(l1, span on that side); past an outer line, half the column"
                 four_strips: l1.min(across.low) + l1.min(across.high) + 2 * across.column,
                 percents,
                 ends,
             }
-            .numbers();
+            .write(&mut records[span]);
         }
     }
 }

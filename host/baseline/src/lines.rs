@@ -5,10 +5,10 @@ use crate::floor::{Beam, Floor, MOST_LINES, X, Y};
 /// What lies across a line: the spans at its low and its high side, 0 past an outer line.
 #[derive(Clone, Copy)]
 pub struct Across {
-    pub low: u64,
-    pub high: u64,
+    pub low: u32,
+    pub high: u32,
     /// The column across, counted on an outer line only.
-    pub column: u64,
+    pub column: u32,
 }
 
 impl Across {
@@ -18,13 +18,9 @@ impl Across {
         let high = spans.get(line).copied().unwrap_or(0);
         let outer = low == 0 || high == 0;
         Across {
-            low: low.into(),
-            high: high.into(),
-            column: if outer {
-                floor.column[1 - way].into()
-            } else {
-                0
-            },
+            low,
+            high,
+            column: if outer { floor.column[1 - way] } else { 0 },
         }
     }
 
@@ -34,12 +30,12 @@ impl Across {
 
     /// 2W: "inside, half of each adjoining span; on an outer line half the span plus half the column
     /// across"
-    pub fn twice_width(self) -> u64 {
+    pub fn twice_width(self) -> u32 {
         self.low + self.high + self.column
     }
 
     /// "l2 is the mean of adjoining spans inside and the whole panel span on an outer line."
-    pub fn l2(self) -> u64 {
+    pub fn l2(self) -> u32 {
         let both = self.low + self.high;
         if self.is_outer() {
             both
@@ -49,14 +45,20 @@ impl Across {
     }
 }
 
-/// "10000·k·b·h³/(2·W·t³), k = 4 inside, 3 outside"
-fn alpha(beam: Beam, across: Across, t: u64) -> u64 {
+/// "10000·k·b·h³/(2·W·t³), k = 4 inside, 3 outside"; "0 without a beam".
+pub fn alpha(floor: &Floor, way: usize, line: usize) -> u64 {
+    let beam = floor.beams(way)[line];
     if !beam.is_there() {
         return 0;
     }
+    let across = Across::of(floor, way, line);
     let k = if across.is_outer() { 3 } else { 4 };
-    let (b, h) = (u64::from(beam.width), u64::from(beam.depth));
-    10_000 * k * b * h.pow(3) / (across.twice_width() * t.pow(3))
+    let (b, h, t) = (
+        u64::from(beam.width),
+        u64::from(beam.depth),
+        u64::from(floor.t),
+    );
+    10_000 * k * b * h.pow(3) / (u64::from(across.twice_width()) * t.pow(3))
 }
 
 /// The α of every line, by the direction that it runs along.
@@ -66,9 +68,8 @@ impl Stiffness {
     pub fn of(floor: &Floor) -> Stiffness {
         let mut alphas = [[0; MOST_LINES]; 2];
         for way in [X, Y] {
-            for (line, &beam) in floor.beams(way).iter().enumerate() {
-                let across = Across::of(floor, way, line);
-                alphas[way][line] = alpha(beam, across, floor.t.into());
+            for (line, place) in alphas[way][..floor.lines(way)].iter_mut().enumerate() {
+                *place = alpha(floor, way, line);
             }
         }
         Stiffness(alphas)

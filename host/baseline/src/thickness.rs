@@ -1,24 +1,8 @@
 //! "Least thickness"
 
-use crate::floor::{Floor, X, Y};
+use crate::floor::{Floor, MOST_BAYS, X, Y};
 use crate::judge::Layout;
-use crate::lines::Stiffness;
-
-/// "ln and sn are the panel's longer and shorter clear spans (span − column)"
-#[derive(Clone, Copy)]
-struct Clear {
-    ln: u64,
-    sn: u64,
-}
-
-fn clear(floor: &Floor, i: usize, j: usize) -> Clear {
-    let x = u64::from(floor.spans(X)[i] - floor.column[X]);
-    let y = u64::from(floor.spans(Y)[j] - floor.column[Y]);
-    Clear {
-        ln: x.max(y),
-        sn: x.min(y),
-    }
-}
+use crate::lines::{alpha, Stiffness};
 
 /// What a panel asks of t: `t·factor ≥ load` and `t ≥ least`.
 struct Asked {
@@ -27,34 +11,35 @@ struct Asked {
     least: u64,
 }
 
-/// Beams everywhere with a sum of α above 8000.
-fn asked_with_beams(Clear { ln, sn }: Clear, s: u64, fy: u64) -> Asked {
+/// Of a panel by its clear spans, "span − column", and S, "the sum of its four line α", which counts with beams
+/// everywhere.
+fn asked(s: u64, x: u32, y: u32, fy: u32, n: u32) -> Asked {
+    let (ln, sn) = (x.max(y), x.min(y));
+    let load = u64::from(ln * sn) * u64::from(1_120 + fy);
     if s > 80_000 {
         Asked {
-            factor: 1_400 * (36 * sn + 9 * ln),
-            load: ln * sn * (1_120 + fy),
+            factor: (1_400 * (36 * sn + 9 * ln)).into(),
+            load,
             least: 90,
+        }
+    } else if s > 8_000 {
+        let stiffer = 5 * u64::from(ln) * (s - 8_000);
+        Asked {
+            factor: 1_400 * (1_440_000 * u64::from(sn) + stiffer),
+            load: 40_000 * load,
+            least: 125,
         }
     } else {
         Asked {
-            factor: 1_400 * (1_440_000 * sn + 5 * ln * (s - 8_000)),
-            load: 40_000 * ln * sn * (1_120 + fy),
+            factor: n.into(),
+            load: ln.into(),
             least: 125,
         }
     }
 }
 
-/// "otherwise t·n ≥ ln, t ≥ 125"
-fn asked_otherwise(ln: u64, n: u64) -> Asked {
-    Asked {
-        factor: n,
-        load: ln,
-        least: 125,
-    }
-}
-
 /// "n for outer panel without edge beams, outer with, inner"
-fn n(fy: u32, layout: Layout, outer: bool) -> u64 {
+fn n(fy: u32, layout: Layout, outer: bool) -> u32 {
     let bare = outer && layout == Layout::NoBeams;
     match fy {
         280 if bare => 33,
@@ -66,62 +51,64 @@ fn n(fy: u32, layout: Layout, outer: bool) -> u64 {
     }
 }
 
-fn is_outer(floor: &Floor, i: usize, j: usize) -> bool {
-    i == 0 || j == 0 || i + 1 == floor.bays[X] || j + 1 == floor.bays[Y]
-}
-
-fn asked(floor: &Floor, layout: Layout, s: u64, (i, j): (usize, usize)) -> Asked {
-    let clear = clear(floor, i, j);
-    if layout == Layout::Everywhere && s > 8_000 {
-        asked_with_beams(clear, s, floor.fy.into())
-    } else {
-        asked_otherwise(clear.ln, n(floor.fy, layout, is_outer(floor, i, j)))
-    }
+fn clear(floor: &Floor, way: usize, bay: usize) -> u32 {
+    floor.spans(way)[bay] - floor.column[way]
 }
 
 /// Of one panel.
 pub fn least(floor: &Floor, layout: Layout, i: usize, j: usize) -> u32 {
-    let s = if layout == Layout::Everywhere {
-        let Stiffness([x, y]) = Stiffness::of(floor);
-        x[j] + x[j + 1] + y[i] + y[i + 1]
-    } else {
-        0
+    let pair = |way: usize, line: usize| alpha(floor, way, line) + alpha(floor, way, line + 1);
+    let s = match layout {
+        Layout::Everywhere => pair(X, j) + pair(Y, i),
+        _ => 0,
     };
-    let asked = asked(floor, layout, s, (i, j));
+    let outer = i == 0 || j == 0 || i + 1 == floor.bays[X] || j + 1 == floor.bays[Y];
+    let n = n(floor.fy, layout, outer);
+    let (x, y) = (clear(floor, X, i), clear(floor, Y, j));
+    let asked = asked(s, x, y, floor.fy, n);
     asked.load.div_ceil(asked.factor).max(asked.least) as u32
 }
 
 /// 64: "t below some panel's least thickness."
 pub fn too_thin(floor: &Floor, layout: Layout, stiffness: &Stiffness) -> bool {
-    if layout == Layout::Everywhere {
-        too_thin_with_beams(floor, stiffness)
-    } else {
-        too_thin_without(floor, layout)
+    match layout {
+        Layout::Everywhere => too_thin_with_beams(floor, stiffness),
+        _ => too_thin_without(floor, layout),
     }
 }
 
-fn too_thin_with_beams(floor: &Floor, Stiffness([x, y]): &Stiffness) -> bool {
-    let t = u64::from(floor.t);
-    let thin = |i: usize, j: usize| {
-        let s = x[j] + x[j + 1] + y[i] + y[i + 1];
-        let Asked {
-            factor,
-            load,
-            least,
-        } = asked(floor, Layout::Everywhere, s, (i, j));
-        t * factor < load || t < least
-    };
-    (0..floor.bays[Y]).any(|j| (0..floor.bays[X]).any(|i| thin(i, j)))
+/// Of each bay of a direction, its clear span and the sum of α of the two lines beside it.
+fn bays(floor: &Floor, way: usize, stiffness: &Stiffness) -> [(u32, u64); MOST_BAYS] {
+    let beside = &stiffness.0[1 - way];
+    let mut bays = [(0, 0); MOST_BAYS];
+    for (bay, &span) in floor.spans(way).iter().enumerate() {
+        let clear = span - floor.column[way];
+        bays[bay] = (clear, beside[bay] + beside[bay + 1]);
+    }
+    bays
 }
 
-/// No inner panel asks for more than an outer one of the same ln, and every span lies in an outer panel: the longest
-/// clear span decides.
-fn too_thin_without(floor: &Floor, layout: Layout) -> bool {
-    let clear = |way: usize| {
-        let longest = floor.spans(way).iter().max();
-        longest.map_or(0, |span| span - floor.column[way])
-    };
-    let ln = u64::from(clear(X).max(clear(Y)));
+/// With edge beams n is the same for outer and inner panels.
+fn too_thin_with_beams(floor: &Floor, stiffness: &Stiffness) -> bool {
     let t = u64::from(floor.t);
-    t * n(floor.fy, layout, true) < ln || t < 125
+    let n = n(floor.fy, Layout::Everywhere, false);
+    let columns = &bays(floor, X, stiffness)[..floor.bays[X]];
+    let rows = &bays(floor, Y, stiffness)[..floor.bays[Y]];
+    let thin = |&(x, beside_x): &(u32, u64), &(y, beside_y): &(u32, u64)| {
+        let asked = asked(beside_x + beside_y, x, y, floor.fy, n);
+        t * asked.factor < asked.load || t < asked.least
+    };
+    rows.iter()
+        .any(|row| columns.iter().any(|column| thin(column, row)))
+}
+
+/// No inner panel asks for more than an outer one of the same ln, and every span lies in an outer panel: the longest clear
+/// span decides.
+fn too_thin_without(floor: &Floor, layout: Layout) -> bool {
+    let longest = |way: usize| {
+        let span = floor.spans(way).iter().max();
+        span.map_or(0, |span| span - floor.column[way])
+    };
+    let ln = longest(X).max(longest(Y));
+    floor.t * n(floor.fy, layout, true) < ln || floor.t < 125
 }

@@ -89,22 +89,50 @@ fn any_floor(draw: &mut Draw) -> Vec<u8> {
     drawn::floor(draw, wanted).bytes()
 }
 
-/// Drawn floors, half of them with one byte spoilt, each changed by its own records and by a spoilt one.
-#[test]
-fn floors_drawn_and_spoilt() {
-    let mut draw = Draw::starting_at(31);
-    for number in 0..2_000 {
-        let mut floor = any_floor(&mut draw);
-        let mut changes: Vec<Vec<u8>> = floor.chunks(RECORD_BYTES).map(<[u8]>::to_vec).collect();
-        for change in &mut changes {
-            let place = draw.between(0, 15) as usize;
-            change[place] ^= draw.one_of(&[0, 1, 2, 4, 20]);
+/// Some of a floor's own records, most of them with a byte altered.
+fn altered_records(draw: &mut Draw, floor: &[u8]) -> Vec<Vec<u8>> {
+    let mut changes = Vec::new();
+    for record in floor.chunks(RECORD_BYTES) {
+        let mut change = record.to_vec();
+        change[draw.between(0, 15) as usize] ^= draw.one_of(&[0, 1, 2, 4, 20]);
+        if draw.percent(20) {
+            changes.push(change);
         }
+    }
+    changes
+}
+
+/// Floors that are drawn, half of them with a byte altered, and changed again and again.
+#[test]
+fn floors_drawn_and_altered() {
+    let mut draw = Draw::starting_at(31);
+    for number in 0..3_000 {
+        let mut floor = any_floor(&mut draw);
+        let changes = altered_records(&mut draw, &floor);
         let place = draw.between(0, floor.len() as u128 - 1) as usize;
         floor[place] ^= draw.one_of(&[0, 0, 0, 1, 4, 20]);
         hold_run(&Run {
             changes,
             ..opening(&format!("drawn {number}"), &floor)
         });
+    }
+}
+
+#[test]
+fn queries_drawn() {
+    let mut draw = Draw::starting_at(32);
+    for number in 0..3_000 {
+        let most = draw.one_of(&[3_000_000, 100_000_000, 2_000_000_000]);
+        let t = draw.between(90, 500);
+        let deep = draw.between(50, t - 25);
+        let query = steel::Query {
+            m: draw.between(0, most),
+            b: draw.between(1, 12_000),
+            t,
+            d: draw.one_of(&[0, deep]),
+            fc: draw.between(20, 60),
+            fy: draw.one_of(&[280, 420, 520]),
+        };
+        hold_query(&format!("drawn {number}"), query);
     }
 }

@@ -5,8 +5,10 @@ use crate::product::{Answer, Baseline, Ours, Product};
 use std::hint::black_box;
 use std::time::{Duration, Instant};
 
-const BATCHES: usize = 61;
-const BATCH: Duration = Duration::from_micros(500);
+const BATCHES: usize = 101;
+
+/// Short, so that most batches run without a break where others use the machine too.
+const BATCH: Duration = Duration::from_micros(200);
 
 /// Room for the largest table.
 const TABLE: usize = 4_992;
@@ -50,7 +52,7 @@ fn batch<P: Product>(lent: &mut Lent, work: &Work, pairs: u32) -> f64 {
 /// Pairs of calls that take about as long as a batch shall.
 fn pairs<P: Product>(lent: &mut Lent, work: &Work) -> u32 {
     let call = batch::<P>(lent, work, 200);
-    (BATCH.as_nanos() as f64 / (2.0 * call)).max(10.0) as u32
+    (BATCH.as_nanos() as f64 / (2.0 * call)).max(1.0) as u32
 }
 
 fn median(mut times: Vec<f64>) -> f64 {

@@ -25,22 +25,25 @@ fn row(operations: Vec<&Operation>) -> Row {
     }
 }
 
+/// Each operation by its times at every size.
+fn rows(by_size: &[Vec<Operation>], wanted: &str) -> Vec<Row> {
+    let mut rows = Vec::new();
+    for (number, operation) in by_size[0].iter().enumerate() {
+        if operation.name.contains(wanted) {
+            let at_each_size = by_size.iter().map(|operations| &operations[number]);
+            rows.push(row(at_each_size.collect()));
+        }
+    }
+    rows
+}
+
+/// An argument is a part of the names of the operations to time; without one all are.
 fn main() {
-    let by_size = SIZES.map(operations::at);
-    let rows: Vec<Row> = (0..by_size[0].len())
-        .map(|number| {
-            row(by_size
-                .iter()
-                .map(|operations| &operations[number])
-                .collect())
-        })
-        .collect();
+    let wanted = std::env::args().nth(1).unwrap_or_default();
+    let timed = rows(&SIZES.map(operations::at), &wanted);
+    let queries = rows(&[operations::steel()], &wanted);
     let titles = SIZES.map(|size| format!("{0}×{0}", size.0));
-    println!("{}", report::ratios(&titles, &rows));
-    let queries: Vec<Row> = operations::steel()
-        .iter()
-        .map(|query| row(vec![query]))
-        .collect();
+    println!("{}", report::ratios(&titles, &timed));
     println!("{}", report::ratios(&["one query:".to_string()], &queries));
-    println!("{}", report::growth(&SIZES, &rows));
+    println!("{}", report::growth(&SIZES, &timed));
 }
