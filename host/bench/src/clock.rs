@@ -30,7 +30,11 @@ fn twice<P: Product>(lent: &mut Lent, work: &Work) -> [Answer; 2] {
             black_box(table),
             black_box(&changes[turn]),
         ),
-        Work::Again(change, place, held) => {
+        Work::Again {
+            change,
+            held,
+            place,
+        } => {
             floor[*place..place + held.len()].copy_from_slice(held);
             P::change(black_box(floor), black_box(table), black_box(change))
         }

@@ -1,12 +1,14 @@
 //! The floors that are timed: square, of a given number of bays each way, every limit kept with room to spare.
 
+use crate::size::Size;
 use reference::builder::Floor;
 
 /// "west + 4·east + 16·south + 64·north": columns west and north, unrestrained east, fully restrained south.
 const SIDES: u128 = 4 + 2 * 16;
 
 /// Spans that differ from bay to bay, and offsets at every third column.
-pub fn without_beams(bays: usize) -> Floor {
+pub fn without_beams(size: Size) -> Floor {
+    let bays = size.0;
     let spans = |around: u128| (0..bays as u128).map(move |bay| around + 200 * (bay % 3));
     let offsets = (0..(bays + 1) * (bays + 1)).map(|column| match column % 3 {
         0 => (200, 150),
@@ -23,11 +25,11 @@ pub fn without_beams(bays: usize) -> Floor {
 }
 
 /// A beam on every line, of three sizes by turns.
-pub fn with_beams(bays: usize) -> Floor {
-    let beams = |depth: u128| (0..=bays as u128).map(move |line| (350, depth + 20 * (line % 3)));
+pub fn with_beams(size: Size) -> Floor {
+    let beams = |depth: u128| (0..=size.0 as u128).map(move |line| (350, depth + 20 * (line % 3)));
     Floor {
         x_lines: beams(600).collect(),
         y_lines: beams(640).collect(),
-        ..without_beams(bays)
+        ..without_beams(size)
     }
 }

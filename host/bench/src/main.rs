@@ -5,23 +5,19 @@ mod floors;
 mod operations;
 mod product;
 mod report;
+mod size;
 
-use operations::{Operation, Size};
+use operations::Operation;
 use report::Row;
+use size::Size;
 
 const SIZES: [Size; 3] = [Size(3), Size(6), Size(12)];
 
-fn row(operations: Vec<&Operation>) -> Row {
+fn row(operations: &[&Operation]) -> Row {
     Row {
-        name: operations[0].name.clone(),
-        times: operations
-            .iter()
-            .map(|operation| clock::time(operation))
-            .collect(),
-        writes: operations
-            .iter()
-            .map(|operation| operation.writes)
-            .collect(),
+        name: operations[0].name,
+        times: operations.iter().map(|timed| clock::time(timed)).collect(),
+        writes: operations.iter().map(|timed| timed.writes).collect(),
     }
 }
 
@@ -31,10 +27,26 @@ fn rows(by_size: &[Vec<Operation>], wanted: &str) -> Vec<Row> {
     for (number, operation) in by_size[0].iter().enumerate() {
         if operation.name.contains(wanted) {
             let at_each_size = by_size.iter().map(|operations| &operations[number]);
-            rows.push(row(at_each_size.collect()));
+            rows.push(row(&at_each_size.collect::<Vec<_>>()));
         }
     }
     rows
+}
+
+/// Changes from clear to clear have all but the writing of records in common with the one that writes none.
+fn print_records(timed: Vec<Row>) {
+    let clear = timed.into_iter().filter(|row| is_clear_change(row.name));
+    let (writing, bare): (Vec<Row>, Vec<Row>) = clear.partition(|row| row.writes[0] > 0);
+    if let Some(bare) = bare.first() {
+        println!("{}", report::records(&writing, bare));
+    }
+}
+
+fn is_clear_change(name: &str) -> bool {
+    let kinds = ["3", "5", "6", "7", "8", "9"];
+    kinds
+        .iter()
+        .any(|kind| name.starts_with(&format!("change {kind},")))
 }
 
 /// An argument is a part of the names of the operations to time; without one all are.
@@ -44,6 +56,7 @@ fn main() {
     let queries = rows(&[operations::steel()], &wanted);
     let titles = SIZES.map(|size| format!("{0}×{0}", size.0));
     println!("{}", report::ratios(&titles, &timed));
-    println!("{}", report::ratios(&["one query:".to_string()], &queries));
+    println!("{}", report::ratios(&["query".to_string()], &queries));
     println!("{}", report::growth(&SIZES, &timed));
+    print_records(timed);
 }

@@ -1,23 +1,22 @@
 //! What was measured, as tables of markdown.
 
 use crate::clock::Times;
-use crate::operations::Size;
+use crate::size::Size;
 
 /// An operation's times at each size.
 pub struct Row {
-    pub name: String,
+    pub name: &'static str,
     pub times: Vec<Times>,
     /// Records of the table that a call writes at each size.
     pub writes: Vec<usize>,
 }
 
-fn line(cells: impl IntoIterator<Item = String>) -> String {
-    let cells: Vec<String> = cells.into_iter().collect();
+fn line(cells: &[String]) -> String {
     format!("| {} |\n", cells.join(" | "))
 }
 
 fn head(cells: &[String]) -> String {
-    line(cells.iter().cloned()) + &format!("|{}\n", "-|".repeat(cells.len()))
+    format!("{}|{}\n", line(cells), "-|".repeat(cells.len()))
 }
 
 fn nanoseconds(time: f64) -> String {
@@ -28,65 +27,91 @@ fn nanoseconds(time: f64) -> String {
     }
 }
 
-/// Ours, the baseline's and their ratio at each size.
+/// Ours, the baseline's and their ratio, three columns under each title.
 pub fn ratios(titles: &[String], rows: &[Row]) -> String {
     let mut cells = vec!["operation".to_string()];
     for title in titles {
-        cells.extend([
-            format!("{title} ours, ns"),
-            "Rust, ns".into(),
-            "ratio".into(),
-        ]);
+        let columns = ["ours, ns", "Rust, ns", "ratio"];
+        cells.extend(columns.map(|column| format!("{title} {column}")));
     }
     let mut text = head(&cells);
     for row in rows {
-        let times = row.times.iter().flat_map(|times| {
-            let ratio = format!("{:.2}", times.ours / times.baseline);
-            [nanoseconds(times.ours), nanoseconds(times.baseline), ratio]
-        });
-        text += &line([row.name.clone()].into_iter().chain(times));
+        let mut cells = vec![row.name.to_string()];
+        for Times { ours, baseline } in &row.times {
+            let ratio = format!("{:.2}", ours / baseline);
+            cells.extend([nanoseconds(*ours), nanoseconds(*baseline), ratio]);
+        }
+        text += &line(&cells);
     }
     text
 }
 
-/// From the first size to the last: how both grow, beside the records written.
+/// One number for each size.
+fn by_size(numbers: impl Iterator<Item = f64>) -> String {
+    numbers.map(nanoseconds).collect::<Vec<_>>().join(", ")
+}
+
+/// How much longer the last size takes than the first, and the time for each panel at every size.
 pub fn growth(sizes: &[Size], rows: &[Row]) -> String {
-    let [first, last] = [sizes[0], sizes[sizes.len() - 1]];
-    let times = |count: fn(Size) -> usize| count(last) as f64 / count(first) as f64;
+    let columns = [
+        "operation",
+        "ours grows",
+        "Rust grows",
+        "ours, ns per panel",
+        "Rust, ns per panel",
+    ];
+    let first_to_last = |number: &dyn Fn(usize) -> f64| number(sizes.len() - 1) / number(0);
     let mut text = format!(
-        "From {0}×{0} to {1}×{1}: panels {2:.1} times, records of the table {3:.1} times, records of the file {4:.1} times.\n\n",
-        first.0,
-        last.0,
-        times(Size::panels),
-        times(Size::records),
-        times(Size::file_records),
+        "Panels grow {:.1}×, records of the table {:.1}×, records of the floor file {:.1}×.\n\n",
+        first_to_last(&|k| sizes[k].panels() as f64),
+        first_to_last(&|k| sizes[k].records() as f64),
+        first_to_last(&|k| sizes[k].file_records() as f64),
     );
-    text += &head(
-        &[
-            "operation",
-            "records written",
-            "ours grows",
-            "Rust grows",
-            "ours, ns per panel",
-            "Rust, ns per panel",
-        ]
-        .map(String::from),
-    );
-    for row in rows {
-        let [small, large] = [&row.times[0], &row.times[row.times.len() - 1]];
-        let writes: Vec<String> = row.writes.iter().map(usize::to_string).collect();
-        let per_panel = |time: fn(&Times) -> f64| {
-            let each = row.times.iter().zip(sizes);
-            let each = each.map(|(times, size)| nanoseconds(time(times) / size.panels() as f64));
-            each.collect::<Vec<_>>().join(", ")
+    text += &head(&columns.map(String::from));
+    for Row { name, times, .. } in rows {
+        let (ours, rust) = (|k: usize| times[k].ours, |k: usize| times[k].baseline);
+        let panels = |k: usize| sizes[k].panels() as f64;
+        text += &line(&[
+            name.to_string(),
+            format!("{:.1}×", first_to_last(&ours)),
+            format!("{:.1}×", first_to_last(&rust)),
+            by_size((0..sizes.len()).map(|k| ours(k) / panels(k))),
+            by_size((0..sizes.len()).map(|k| rust(k) / panels(k))),
+        ]);
+    }
+    text
+}
+
+/// What each record that is written adds to an operation that differs from `bare` by writing them.
+pub fn records(rows: &[Row], bare: &Row) -> String {
+    let columns = [
+        "operation",
+        "records written",
+        "ours, ns per record",
+        "Rust, ns per record",
+    ];
+    let mut text = head(&columns.map(String::from));
+    for Row {
+        name,
+        times,
+        writes,
+    } in rows
+    {
+        let each = |time: fn(&Times) -> f64| {
+            let added = times.iter().zip(&bare.times);
+            let added = added.map(move |(with, without)| time(with) - time(without));
+            by_size(
+                added
+                    .zip(writes)
+                    .map(|(added, &count)| added / count as f64),
+            )
         };
-        text += &line([
-            row.name.clone(),
-            writes.join(", "),
-            format!("{:.1}×", large.ours / small.ours),
-            format!("{:.1}×", large.baseline / small.baseline),
-            per_panel(|times| times.ours),
-            per_panel(|times| times.baseline),
+        let counts: Vec<String> = writes.iter().map(usize::to_string).collect();
+        text += &line(&[
+            name.to_string(),
+            counts.join(", "),
+            each(|times| times.ours),
+            each(|times| times.baseline),
         ]);
     }
     text
