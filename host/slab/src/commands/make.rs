@@ -1,0 +1,37 @@
+//! `slab make`: a text into a floor file.
+
+use super::{arguments, Command, Ended, Status};
+use crate::input::Input;
+use crate::judge::{judge, Judged};
+use crate::output::{self, complain};
+use crate::{say, text};
+use std::ffi::OsString;
+
+pub const COMMAND: Command = Command {
+    name: "make",
+    usage: "TEXT [-o FLOOR]",
+    summary: "turn a text into a floor file",
+    help: text::GUIDE,
+    run,
+};
+
+fn run(words: &[OsString]) -> Ended {
+    let arguments = arguments::input_and_output(&COMMAND, words)?;
+    if output::is_terminal(arguments.output) {
+        return Err("a floor file is bytes and no sight for a terminal: \
+                    expected -o and a file's name, or a pipe"
+            .to_string());
+    }
+    let input = Input::read(arguments.input)?;
+    let file = text::floor(&input)?.bytes();
+    output::write(arguments.output, &file)?;
+    // It is made all the same: `slab check` then says why, and a text is mended more easily than bytes.
+    if let Judged::Refused(number) = judge(&file) {
+        let refusal = say::refusal::sentence(number);
+        complain(&format!(
+            "the floor is made as {} says, but it is {refusal}",
+            input.name
+        ));
+    }
+    Ok(Status::Clear)
+}

@@ -1,0 +1,40 @@
+//! `slab text`: a floor file into a text.
+
+use super::{arguments, Command, Ended, Status};
+use crate::file::Floor;
+use crate::input::Input;
+use crate::judge::{judge, Judged};
+use crate::output::{self, complain};
+use crate::{say, text};
+use std::ffi::OsString;
+
+pub const COMMAND: Command = Command {
+    name: "text",
+    usage: "FLOOR [-o TEXT]",
+    summary: "turn a floor file into a text",
+    help: "\
+Writes the floor as the text that `slab make` turns into exactly these bytes, values out of range
+and all. Of a file that is not laid out as a floor it says the refusal, and ends with status 2.
+
+  slab text garage.floor -o garage.txt
+",
+    run,
+};
+
+fn run(words: &[OsString]) -> Ended {
+    let arguments = arguments::input_and_output(&COMMAND, words)?;
+    let input = Input::read(arguments.input)?;
+    if let Some(floor) = Floor::of(input.floor()) {
+        output::write(arguments.output, text::write::text(&floor).as_bytes())?;
+        return Ok(Status::Clear);
+    }
+    let Judged::Refused(number) = judge(input.floor()) else {
+        unreachable!("an accepted floor is laid out as 01 lists it");
+    };
+    complain(&format!(
+        "{}: {}",
+        input.name,
+        say::refusal::sentence(number)
+    ));
+    Ok(Status::Refused)
+}

@@ -1,0 +1,40 @@
+//! What the proved library says of a floor.
+
+use crate::file::Floor;
+
+/// Sixteen numbers for each of the (ny+1)nx + (nx+1)ny spans of 12 by 12 bays, so that refusal 8 never arises.
+const LARGEST_TABLE: usize = 16 * 2 * 13 * 12;
+
+pub enum Judged {
+    Refused(u32),
+    Accepted(Accepted),
+}
+
+pub struct Accepted {
+    pub floor: Floor,
+    pub verdict: u32,
+    /// Of each y bay from the south, its panels' least thicknesses from the west.
+    pub least: Vec<Vec<u32>>,
+}
+
+/// The table of moments is dropped unread.
+pub fn judge(file: &[u8]) -> Judged {
+    let answer = gandhrumil::open(file, &mut [0; LARGEST_TABLE]);
+    if answer.refusal != 0 {
+        return Judged::Refused(answer.refusal);
+    }
+    let floor = Floor::of(file).expect("an accepted floor is laid out as 01 lists it");
+    Judged::Accepted(Accepted {
+        verdict: answer.value,
+        least: least_thicknesses(file, &floor),
+        floor,
+    })
+}
+
+fn least_thicknesses(file: &[u8], floor: &Floor) -> Vec<Vec<u32>> {
+    let panels = |y| {
+        let bays = 0..floor.x_spans.len() as u64;
+        bays.map(|x| gandhrumil::panel(file, x, y).value).collect()
+    };
+    (0..floor.y_spans.len() as u64).map(panels).collect()
+}

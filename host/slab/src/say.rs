@@ -1,0 +1,7 @@
+//! What the library answers, in words that are as true as 01: equality always passes.
+
+mod culprits;
+mod panels;
+mod records;
+pub mod refusal;
+pub mod verdict;

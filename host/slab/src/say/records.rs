@@ -1,0 +1,64 @@
+//! One record of a floor in the words of its text.
+
+use crate::file::{Floor, Record};
+use crate::text::sides;
+
+/// The range of each kind's values: 01, "The floor file".
+const RANGES: [(u16, &str); 8] = [
+    (2, "concrete 20 to 60, steel 280, 420 or 520"),
+    (3, "dead 1000 to 30000, live 0 to 50000"),
+    (
+        4,
+        "columns 200 to 1500 each way, multiples of 10; each side columns, unrestrained or restrained",
+    ),
+    (5, "1000 to 12000, a multiple of 20"),
+    (6, "1000 to 12000, a multiple of 20"),
+    (7, "width 150 to 1000 and depth 91 to 1500, or both 0"),
+    (8, "width 150 to 1000 and depth 91 to 1500, or both 0"),
+    (9, "0 to 12000 each way"),
+];
+
+pub fn words(floor: &Floor, record: &Record) -> String {
+    let Record {
+        kind,
+        index,
+        fields: [a, b, c],
+    } = *record;
+    let across = floor.x_spans.len() + 1;
+    let (i, j) = (usize::from(index) % across, usize::from(index) / across);
+    match kind {
+        2 => format!("concrete {a}, steel {b}"),
+        3 => format!("dead {a}, live {b}"),
+        4 => format!("columns {a} {b}, sides {}", sides::written(c)),
+        5 => format!("x bay {index}, span {a}"),
+        6 => format!("y bay {index}, span {a}"),
+        7 => format!("x line {index} beam {a} {b}"),
+        8 => format!("y line {index} beam {a} {b}"),
+        9 => format!("column {i} {j} offset {a} {b}"),
+        _ => format!("{a} by {b} bays, slab {c}"),
+    }
+}
+
+pub fn with_range(floor: &Floor, record: &Record) -> String {
+    let words = words(floor, record);
+    match RANGES.iter().find(|(kind, _)| *kind == record.kind) {
+        Some((_, range)) => format!("{words}: expected {range}"),
+        None => words,
+    }
+}
+
+/// Which lines have a beam.
+pub fn layout(floor: &Floor) -> String {
+    let (x_lines, y_lines) = (beamed(&floor.x_lines), beamed(&floor.y_lines));
+    format!("beams on x lines {x_lines}, on y lines {y_lines}")
+}
+
+fn beamed(lines: &[[u32; 2]]) -> String {
+    let all = lines.iter().enumerate();
+    let beamed = all.filter(|(_, beam)| **beam != [0, 0]);
+    let numbers: Vec<String> = beamed.map(|(line, _)| line.to_string()).collect();
+    match numbers[..] {
+        [] => "none".to_string(),
+        _ => numbers.join(" ") + &format!(" of 0 to {}", lines.len() - 1),
+    }
+}

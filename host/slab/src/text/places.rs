@@ -1,0 +1,91 @@
+//! Beams and offsets put in their places, once the spans say how many lines there are.
+
+use super::faults::Fault;
+use super::lines::{Lines, Way};
+use super::read::Given;
+
+/// The places of one sort: their pairs, and the line of the text that gave each.
+struct Places {
+    pairs: Vec<[u32; 2]>,
+    given: Vec<Option<usize>>,
+}
+
+impl Places {
+    fn new(count: usize) -> Places {
+        Places {
+            pairs: vec![[0, 0]; count],
+            given: vec![None; count],
+        }
+    }
+
+    /// The words of the fault where the place was given before.
+    fn give(&mut self, at: usize, line: usize, pair: [u32; 2], name: &str) -> Result<(), String> {
+        self.pairs[at] = pair;
+        match self.given[at].replace(line) {
+            None => Ok(()),
+            Some(first) => Err(format!(
+                "expected {name} once, and line {first} gives it already"
+            )),
+        }
+    }
+}
+
+/// Those of the x lines and those of the y lines.
+pub fn beams(
+    beams: &[Given<Lines>],
+    nx: usize,
+    ny: usize,
+    faults: &mut Vec<Fault>,
+) -> (Vec<[u32; 2]>, Vec<[u32; 2]>) {
+    let mut x_lines = Places::new(ny + 1);
+    let mut y_lines = Places::new(nx + 1);
+    for beam in beams {
+        let given = give_beam(&mut x_lines, Way::X, beam)
+            .and_then(|()| give_beam(&mut y_lines, Way::Y, beam));
+        let line = beam.line;
+        faults.extend(given.err().map(|words| Fault { line, words }));
+    }
+    (x_lines.pairs, y_lines.pairs)
+}
+
+fn give_beam(places: &mut Places, way: Way, beam: &Given<Lines>) -> Result<(), String> {
+    let (way_name, count) = (way.name(), places.pairs.len());
+    for number in beam.place.numbers(way, count) {
+        if number >= count {
+            let last = count - 1;
+            return Err(format!(
+                "expected an {way_name} line from 0 to {last}, as the spans have it, found {number}"
+            ));
+        }
+        let name = format!("the beam on {way_name} line {number}");
+        places.give(number, beam.line, beam.pair, &name)?;
+    }
+    Ok(())
+}
+
+pub fn offsets(
+    offsets: &[Given<[usize; 2]>],
+    nx: usize,
+    ny: usize,
+    faults: &mut Vec<Fault>,
+) -> Vec<[u32; 2]> {
+    let mut columns = Places::new((nx + 1) * (ny + 1));
+    for &Given {
+        line,
+        place: [i, j],
+        pair,
+    } in offsets
+    {
+        let given = if i <= nx && j <= ny {
+            let name = format!("the offset of column {i} {j}");
+            columns.give(j * (nx + 1) + i, line, pair, &name)
+        } else {
+            Err(format!(
+                "expected a column on y lines 0 to {nx} and x lines 0 to {ny}, \
+                 as the spans have it, found column {i} {j}"
+            ))
+        };
+        faults.extend(given.err().map(|words| Fault { line, words }));
+    }
+    columns.pairs
+}
