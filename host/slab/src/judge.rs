@@ -17,6 +17,11 @@ pub struct Accepted {
     pub least: Vec<Vec<u32>>,
 }
 
+/// 1 to 7, or 0: a panel query tries these, and every floor has its first panel.
+pub fn refusal(file: &[u8]) -> u32 {
+    gandhrumil::panel(file, 0, 0).refusal
+}
+
 /// The table of moments is dropped unread.
 pub fn judge(file: &[u8]) -> Judged {
     let answer = gandhrumil::open(file, &mut [0; LARGEST_TABLE]);

@@ -2,7 +2,7 @@
 
 use super::{arguments, Command, Ended, Status};
 use crate::input::Input;
-use crate::judge::{judge, Judged};
+use crate::judge::refusal;
 use crate::output::{self, complain};
 use crate::{say, text};
 use std::ffi::OsString;
@@ -26,11 +26,11 @@ fn run(words: &[OsString]) -> Ended {
     let file = text::floor(&input)?.bytes();
     output::write(arguments.output, &file)?;
     // It is made all the same: `slab check` then says why, and a text is mended more easily than bytes.
-    if let Judged::Refused(number) = judge(&file) {
-        let refusal = say::refusal::sentence(number);
+    let refused = refusal(&file);
+    if refused != 0 {
+        let (name, why) = (&input.name, say::refusal::sentence(refused));
         complain(&format!(
-            "the floor is made as {} says, but it is {refusal}",
-            input.name
+            "the floor is made as {name} says, but it is {why}"
         ));
     }
     Ok(Status::Clear)

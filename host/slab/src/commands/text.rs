@@ -3,7 +3,7 @@
 use super::{arguments, Command, Ended, Status};
 use crate::file::Floor;
 use crate::input::Input;
-use crate::judge::{judge, Judged};
+use crate::judge::refusal;
 use crate::output::{self, complain};
 use crate::{say, text};
 use std::ffi::OsString;
@@ -28,13 +28,7 @@ fn run(words: &[OsString]) -> Ended {
         output::write(arguments.output, text::write::text(&floor).as_bytes())?;
         return Ok(Status::Clear);
     }
-    let Judged::Refused(number) = judge(input.floor()) else {
-        unreachable!("an accepted floor is laid out as 01 lists it");
-    };
-    complain(&format!(
-        "{}: {}",
-        input.name,
-        say::refusal::sentence(number)
-    ));
+    let why = say::refusal::sentence(refusal(input.floor()));
+    complain(&format!("{}: {why}", input.name));
     Ok(Status::Refused)
 }

@@ -4,7 +4,7 @@
 
 use super::records;
 use crate::file::{Floor, Record, RECORD_BYTES};
-use crate::judge::{judge, Judged};
+use crate::judge::refusal;
 
 /// Accepted, whatever the bays: the longest spans and the smallest columns, and no beams.
 fn mild(floor: &Floor) -> Floor {
@@ -24,10 +24,6 @@ fn mild(floor: &Floor) -> Floor {
     }
 }
 
-fn is_refused(file: &[u8], number: u32) -> bool {
-    matches!(judge(file), Judged::Refused(refused) if refused == number)
-}
-
 /// The records of `file` for which `base`, with that record alone put in, is refused with this number.
 fn alone(base: &Floor, file: &[u8], number: u32) -> Vec<Record> {
     let base = base.bytes();
@@ -37,7 +33,7 @@ fn alone(base: &Floor, file: &[u8], number: u32) -> Vec<Record> {
         let mut asked = base.clone();
         asked[place.clone()].copy_from_slice(&file[place.clone()]);
         place = place.end..place.end + RECORD_BYTES;
-        is_refused(&asked, number)
+        refusal(&asked) == number
     });
     records
 }
@@ -84,14 +80,11 @@ pub fn beams(file: &[u8]) -> Vec<String> {
     let words = |beam| format!("{}: slab {}", records::words(&floor, beam), floor.t);
     let mut lines: Vec<String> = shallow.iter().map(words).collect();
     // Every beam is deeper than 90, so that the layout alone is left to refuse.
-    if is_refused(
-        &Floor {
-            t: 90,
-            ..floor.clone()
-        }
-        .bytes(),
-        7,
-    ) {
+    let thinnest = Floor {
+        t: 90,
+        ..floor.clone()
+    };
+    if refusal(&thinnest.bytes()) == 7 {
         lines.push(records::layout(&floor));
     }
     lines

@@ -15,8 +15,8 @@ const LIMITS: [(u32, &str); 7] = [
     (16, "the live load is more than twice the dead load"),
     (
         32,
-        "there are beams everywhere, and in some panel one of two is more than five times the other: \
-         its x lines' α times the y span squared, its y lines' α times the x span squared",
+        "there are beams everywhere, and in some panel (α of its x lines)·(y span)² and \
+         (α of its y lines)·(x span)² are more than five times apart",
     ),
     (64, "the slab is thinner than some panel's least thickness"),
 ];

@@ -54,7 +54,7 @@ fn give_beam(places: &mut Places, way: Way, beam: &Given<Lines>) -> Result<(), S
         if number >= count {
             let last = count - 1;
             return Err(format!(
-                "expected an {way_name} line from 0 to {last}, as the spans have it, found {number}"
+                "expected one of the {way_name} lines 0 to {last} that the spans make, found {number}"
             ));
         }
         let name = format!("the beam on {way_name} line {number}");
@@ -82,7 +82,7 @@ pub fn offsets(
         } else {
             Err(format!(
                 "expected a column on y lines 0 to {nx} and x lines 0 to {ny}, \
-                 as the spans have it, found column {i} {j}"
+                 which the spans make, found column {i} {j}"
             ))
         };
         faults.extend(given.err().map(|words| Fault { line, words }));

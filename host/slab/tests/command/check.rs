@@ -1,0 +1,145 @@
+//! What `check` says of every floor, held against the independent implementation.
+
+use crate::run::slab_on;
+use reference::builder::Floor;
+use reference::floors::{self, Described};
+use reference::verdict::{judge, judged};
+
+fn said(file: &[u8]) -> (i32, String) {
+    let ran = slab_on(&["check", "-"], file);
+    assert_eq!(ran.stderr, "");
+    (ran.status, ran.words().to_string())
+}
+
+fn inputs() -> Vec<Described> {
+    let mut inputs = floors::all();
+    inputs.extend(floors::long::inputs());
+    inputs
+}
+
+/// The numbers of the lines of limits, added up.
+fn verdict_said(words: &str) -> u128 {
+    let lines = words.lines().filter(|line| line.starts_with("  "));
+    let limits = lines.filter(|line| !line.contains(" bay "));
+    let number = |line: &str| line.split_whitespace().next()?.parse().ok();
+    limits.map(|line| number(line).unwrap_or(0)).sum()
+}
+
+/// The plan's rows from the south, a star where a panel asks for more than the slab.
+fn plan_said(words: &str) -> Vec<Vec<String>> {
+    let rows = words.lines().filter(|line| line.starts_with("  y bay"));
+    let cells = |row: &str| row.split_whitespace().skip(3).map(str::to_string).collect();
+    rows.rev().map(cells).collect()
+}
+
+fn plan_right(file: &[u8], t: u128) -> Vec<Vec<String>> {
+    let marked = |least: &str| {
+        let star = if least.parse::<u128>().unwrap() > t {
+            "*"
+        } else {
+            ""
+        };
+        format!("{least}{star}")
+    };
+    let lines = judged(file);
+    let rows = lines.lines().skip(1);
+    rows.map(|row| row.split(' ').map(marked).collect())
+        .collect()
+}
+
+#[test]
+fn every_described_floor() {
+    for Described { description, bytes } in inputs() {
+        let (status, words) = said(&bytes);
+        match judge(&bytes) {
+            (0, verdict) => {
+                let t = reference::floor_file::sizes(&bytes).t;
+                assert_eq!(status, (verdict != 0).into(), "{description}");
+                assert_eq!(verdict_said(&words), verdict, "{description}\n{words}");
+                assert_eq!(
+                    plan_said(&words),
+                    plan_right(&bytes, t),
+                    "{description}\n{words}"
+                );
+                assert_eq!(words.contains("\nclear: "), verdict == 0, "{description}");
+                assert_eq!(
+                    words.contains(&format!("\nnot clear, verdict {verdict}:\n")),
+                    verdict != 0
+                );
+            }
+            (refused, _) => {
+                let start = format!("standard input: refused {refused}: ");
+                assert_eq!(status, 2, "{description}");
+                assert!(words.starts_with(&start), "{description}\n{words}");
+            }
+        }
+    }
+}
+
+/// Each limit by its own words, in a floor that breaks it alone.
+#[test]
+fn each_limit_in_words() {
+    let broken = |spoil: fn(&mut Floor)| {
+        let mut floor = Floor::clear(3, 3);
+        spoil(&mut floor);
+        said(&floor.bytes()).1
+    };
+    let assert_said = |words: String, number: u32, limit: &str| {
+        assert!(
+            words.contains(&format!("\nnot clear, verdict {number}:\n")),
+            "{words}"
+        );
+        assert!(words.contains(limit), "{words}");
+    };
+    let two_bays = said(&Floor::clear(3, 2).bytes()).1;
+    assert_said(two_bays, 1, "fewer than three bays along x or along y");
+    let long = broken(|floor| {
+        floor.t = 220;
+        floor.x_spans = vec![6_020; 3];
+        floor.y_spans = vec![3_000; 3];
+    });
+    assert_said(long, 2, "the longer span is more than twice the shorter");
+    let uneven = broken(|floor| floor.x_spans[1] = 3_980);
+    assert_said(uneven, 4, "differ by more than a third of the longer");
+    let off = broken(|floor| floor.offsets[5].1 = 601);
+    assert_said(
+        off,
+        8,
+        "off its line by more than a tenth of a span that adjoins it",
+    );
+    let heavy = broken(|floor| floor.live = 10_001);
+    assert_said(heavy, 16, "the live load is more than twice the dead load");
+    let stiff = broken(|floor| {
+        floor.x_lines = vec![(1_000, 1_500); 4];
+        floor.y_lines = vec![(300, 400); 4];
+    });
+    assert_said(stiff, 32, "are more than five times apart");
+    let thin = broken(|floor| floor.t = 180);
+    assert_said(
+        thin,
+        64,
+        "the slab is thinner than some panel's least thickness",
+    );
+}
+
+/// "equality always passes"
+#[test]
+fn a_floor_at_its_limits_is_clear() {
+    let mut floor = Floor::clear(3, 3);
+    floor.live = 2 * floor.dead;
+    floor.offsets[5] = (400, 600);
+    floor.x_spans[1] = 4_000;
+    let (status, words) = said(&floor.bytes());
+    assert_eq!(status, 0, "{words}");
+}
+
+#[test]
+fn all_seven_together() {
+    let inputs = floors::all();
+    let all = inputs
+        .iter()
+        .find(|floor| floor.description == "all seven broken")
+        .unwrap();
+    let (status, words) = said(&all.bytes);
+    assert_eq!((status, verdict_said(&words)), (1, 127), "{words}");
+}

@@ -1,0 +1,56 @@
+//! Help, for the command and each of its commands.
+
+use crate::run::slab;
+use slab::commands::COMMANDS;
+
+#[test]
+fn the_list_has_every_command() {
+    let asked = slab(&["help"]);
+    assert_eq!((asked.status, &asked.stderr[..]), (0, ""));
+    for command in COMMANDS {
+        assert!(asked
+            .words()
+            .contains(&format!("\n  slab {} ", command.name)));
+    }
+    for words in ["--help", "-h"] {
+        assert_eq!(slab(&[words]).stdout, asked.stdout);
+    }
+}
+
+/// Without a command the status is none that a clear floor has.
+#[test]
+fn no_command() {
+    let none: [&str; 0] = [];
+    let ran = slab(&none);
+    assert_eq!((ran.status, ran.stdout.len()), (3, 0));
+    assert!(ran.stderr.contains(slab(&["help"]).words()));
+}
+
+#[test]
+fn each_command_in_full() {
+    for command in COMMANDS {
+        let asked = slab(&["help", command.name]);
+        assert_eq!(asked.status, 0);
+        assert!(asked
+            .words()
+            .starts_with(&format!("slab {} {}\n", command.name, command.usage)));
+        assert!(asked.words().contains(command.help));
+        assert_eq!(slab(&[command.name, "--help"]).stdout, asked.stdout);
+    }
+}
+
+/// The lines that `slab help make` shows are a text.
+#[test]
+fn the_guide_is_true() {
+    let lines = slab::text::GUIDE.lines();
+    let shown = lines.filter(|line| line.starts_with("  ") && !line.starts_with("   "));
+    let shown = shown.filter(|line| !line.starts_with("  slab make"));
+    let bare = shown.map(|line| line.trim().split("    ").next().unwrap());
+    let text: Vec<&str> = bare.collect();
+    let floor = slab::text::read::floor(text.join("\n").as_bytes()).unwrap();
+    assert_eq!(
+        (floor.t, floor.sides, floor.x_spans.len()),
+        (200, 16 + 2 * 64, 5)
+    );
+    assert_eq!((floor.x_lines[0], floor.offsets[2]), ([400, 700], [250, 0]));
+}

@@ -1,0 +1,11 @@
+//! The command, by what it prints and how it ends, and the text form beneath it.
+
+mod check;
+mod culprits;
+mod garage;
+mod help;
+mod inputs;
+mod reader;
+mod round_trip;
+mod run;
+mod statuses;
