@@ -8,7 +8,7 @@ pub mod text;
 
 use std::ffi::OsString;
 
-/// The exit status. 0 to 2 are what the library says of a floor; a command that judges nothing ends with 0 where it did what was asked.
+/// The exit status. 0 to 2 are what the library says of a floor.
 #[derive(Clone, Copy, Debug, PartialEq, Eq)]
 pub enum Status {
     Clear = 0,
@@ -16,6 +16,11 @@ pub enum Status {
     Refused = 2,
     /// The command line, a text or a file that cannot be used.
     Unusable = 3,
+}
+
+impl Status {
+    /// Done as asked, by a command that judges nothing.
+    pub const DONE: Status = Status::Clear;
 }
 
 /// A status, or what could not be used, in words.

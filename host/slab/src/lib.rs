@@ -5,6 +5,7 @@
 
 pub mod commands;
 pub mod file;
+pub mod given;
 pub mod input;
 pub mod judge;
 pub mod output;

@@ -1,9 +1,9 @@
 //! `slab check`: the refusal or the verdict in words, and each panel's least thickness. It shows no moment.
 
 use super::{arguments, Command, Ended, Status};
-use crate::input::Input;
+use crate::given::Given;
 use crate::judge::{judge, Judged};
-use crate::{output, say, text};
+use crate::{output, say};
 use std::ffi::OsString;
 
 pub const COMMAND: Command = Command {
@@ -22,21 +22,17 @@ Exit status: 0 clear, 1 not clear, 2 refused, 3 where there is no floor to check
 };
 
 fn run(words: &[OsString]) -> Ended {
-    let input = Input::read(arguments::input(&COMMAND, words)?)?;
-    let (file, length) = if input.is_text() {
-        let made = text::floor(&input)?.bytes();
-        let length = made.len() as u64;
-        (made, length)
-    } else {
-        (input.floor().to_vec(), input.length())
-    };
-    let (words, status) = match judge(&file) {
-        Judged::Refused(number) => (say::refusal::page(number, &file, length), Status::Refused),
-        Judged::Accepted(accepted) if accepted.verdict == 0 => {
-            (say::verdict::page(&accepted), Status::Clear)
+    let given = Given::read(arguments::input(&COMMAND, words)?)?;
+    let (words, status) = match judge(&given.file) {
+        Judged::Refused(number) => (say::refusal::page(number, &given), Status::Refused),
+        Judged::Accepted(accepted) => {
+            let status = match accepted.verdict {
+                0 => Status::Clear,
+                _ => Status::NotClear,
+            };
+            (say::verdict::page(&accepted), status)
         }
-        Judged::Accepted(accepted) => (say::verdict::page(&accepted), Status::NotClear),
     };
-    output::print(format!("{}: {words}", input.name).as_bytes())?;
+    output::print(format!("{}: {words}", given.name).as_bytes())?;
     Ok(status)
 }

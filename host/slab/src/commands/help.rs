@@ -47,14 +47,14 @@ pub fn print(command: &Command) -> Ended {
         name, usage, help, ..
     } = command;
     output::print(format!("slab {name} {usage}\n\n{help}").as_bytes())?;
-    Ok(Status::Clear)
+    Ok(Status::DONE)
 }
 
 fn run(words: &[OsString]) -> Ended {
     match words {
         [] => {
             output::print(overview().as_bytes())?;
-            Ok(Status::Clear)
+            Ok(Status::DONE)
         }
         [name] => print(named(name)?),
         _ => Err("slab help takes one command".to_string()),

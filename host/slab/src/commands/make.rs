@@ -33,5 +33,5 @@ fn run(words: &[OsString]) -> Ended {
             "the floor is made as {name} says, but it is {why}"
         ));
     }
-    Ok(Status::Clear)
+    Ok(Status::DONE)
 }

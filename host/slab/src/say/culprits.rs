@@ -51,16 +51,10 @@ pub fn out_of_range(file: &[u8]) -> Vec<String> {
 /// Every span that twice the columns exceed.
 pub fn too_short_for_columns(file: &[u8]) -> Vec<String> {
     let floor = laid_out(file);
-    let columns = floor.columns;
-    let spans = alone(
-        &Floor {
-            columns,
-            ..mild(&floor)
-        },
-        file,
-        6,
-    );
-    let [cx, cy] = columns;
+    let mut base = mild(&floor);
+    base.columns = floor.columns;
+    let spans = alone(&base, file, 6);
+    let [cx, cy] = floor.columns;
     let words = |record| format!("{}: columns {cx} {cy}", records::words(&floor, record));
     spans.iter().map(words).collect()
 }
@@ -80,10 +74,8 @@ pub fn beams(file: &[u8]) -> Vec<String> {
     let words = |beam| format!("{}: slab {}", records::words(&floor, beam), floor.t);
     let mut lines: Vec<String> = shallow.iter().map(words).collect();
     // Every beam is deeper than 90, so that the layout alone is left to refuse.
-    let thinnest = Floor {
-        t: 90,
-        ..floor.clone()
-    };
+    let mut thinnest = floor.clone();
+    thinnest.t = 90;
     if refusal(&thinnest.bytes()) == 7 {
         lines.push(records::layout(&floor));
     }

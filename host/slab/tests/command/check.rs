@@ -76,50 +76,59 @@ fn every_described_floor() {
     }
 }
 
-/// Each limit by its own words, in a floor that breaks it alone.
+type Spoil = fn(&mut Floor);
+
+/// What breaks each limit alone in a clear floor of 3 by 3 bays, and words that have to be said of it.
+const BROKEN: [(u32, &str, Spoil); 7] = [
+    (1, "fewer than three bays along x or along y", |floor| {
+        *floor = Floor::clear(3, 2)
+    }),
+    (
+        2,
+        "the longer span is more than twice the shorter",
+        |floor| {
+            floor.x_spans = vec![6_020; 3];
+            floor.y_spans = vec![3_000; 3];
+        },
+    ),
+    (4, "differ by more than a third of the longer", |floor| {
+        floor.x_spans[1] = 3_980
+    }),
+    (
+        8,
+        "off its line by more than a tenth of a span that adjoins it",
+        |floor| {
+            floor.offsets[5].1 = 601;
+        },
+    ),
+    (
+        16,
+        "the live load is more than twice the dead load",
+        |floor| floor.live = 10_001,
+    ),
+    (32, "are more than five times apart", |floor| {
+        floor.x_lines = vec![(1_000, 1_500); 4];
+        floor.y_lines = vec![(300, 400); 4];
+    }),
+    (
+        64,
+        "the slab is thinner than some panel's least thickness",
+        |floor| floor.t = 180,
+    ),
+];
+
 #[test]
 fn each_limit_in_words() {
-    let broken = |spoil: fn(&mut Floor)| {
+    for (number, limit, spoil) in BROKEN {
         let mut floor = Floor::clear(3, 3);
         spoil(&mut floor);
-        said(&floor.bytes()).1
-    };
-    let assert_said = |words: String, number: u32, limit: &str| {
+        let (_, words) = said(&floor.bytes());
         assert!(
             words.contains(&format!("\nnot clear, verdict {number}:\n")),
             "{words}"
         );
         assert!(words.contains(limit), "{words}");
-    };
-    let two_bays = said(&Floor::clear(3, 2).bytes()).1;
-    assert_said(two_bays, 1, "fewer than three bays along x or along y");
-    let long = broken(|floor| {
-        floor.t = 220;
-        floor.x_spans = vec![6_020; 3];
-        floor.y_spans = vec![3_000; 3];
-    });
-    assert_said(long, 2, "the longer span is more than twice the shorter");
-    let uneven = broken(|floor| floor.x_spans[1] = 3_980);
-    assert_said(uneven, 4, "differ by more than a third of the longer");
-    let off = broken(|floor| floor.offsets[5].1 = 601);
-    assert_said(
-        off,
-        8,
-        "off its line by more than a tenth of a span that adjoins it",
-    );
-    let heavy = broken(|floor| floor.live = 10_001);
-    assert_said(heavy, 16, "the live load is more than twice the dead load");
-    let stiff = broken(|floor| {
-        floor.x_lines = vec![(1_000, 1_500); 4];
-        floor.y_lines = vec![(300, 400); 4];
-    });
-    assert_said(stiff, 32, "are more than five times apart");
-    let thin = broken(|floor| floor.t = 180);
-    assert_said(
-        thin,
-        64,
-        "the slab is thinner than some panel's least thickness",
-    );
+    }
 }
 
 /// "equality always passes"

@@ -1,6 +1,6 @@
 //! The example garage in both its forms.
 
-use crate::run::{root, scratch, slab, slab_on};
+use crate::run::{command, root, scratch, slab, slab_on, Ran};
 use std::fs;
 
 fn text() -> Vec<u8> {
@@ -59,5 +59,16 @@ fn check_shows_no_moment() {
     assert!(moments.len() > 700, "{} moments", moments.len());
     for word in said.words().split(|letter: char| !letter.is_ascii_digit()) {
         assert!(!moments.contains(&word), "{word}");
+    }
+}
+
+/// The README shows it.
+#[test]
+fn check_as_the_readme_has_it() {
+    let readme = fs::read_to_string(root("README.md")).unwrap();
+    let mut command = command(&["check", "example/garage.floor"]);
+    let said = Ran::from(command.current_dir(root("")).output().unwrap());
+    for line in said.words().lines().filter(|line| !line.is_empty()) {
+        assert!(readme.contains(&format!("\n    {line}\n")), "{line}");
     }
 }

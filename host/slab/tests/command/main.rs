@@ -2,9 +2,11 @@
 
 mod check;
 mod culprits;
+mod faults;
 mod garage;
 mod help;
 mod inputs;
+mod plain;
 mod reader;
 mod round_trip;
 mod run;
