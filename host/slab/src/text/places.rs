@@ -2,7 +2,7 @@
 
 use super::faults::Fault;
 use super::lines::{Lines, Way};
-use super::read::Given;
+use super::read::Pair;
 
 /// The places of one sort: their pairs, and the line of the text that gave each.
 struct Places {
@@ -32,7 +32,7 @@ impl Places {
 
 /// Those of the x lines and those of the y lines.
 pub fn beams(
-    beams: &[Given<Lines>],
+    beams: &[Pair<Lines>],
     nx: usize,
     ny: usize,
     faults: &mut Vec<Fault>,
@@ -48,7 +48,7 @@ pub fn beams(
     (x_lines.pairs, y_lines.pairs)
 }
 
-fn give_beam(places: &mut Places, way: Way, beam: &Given<Lines>) -> Result<(), String> {
+fn give_beam(places: &mut Places, way: Way, beam: &Pair<Lines>) -> Result<(), String> {
     let (way_name, count) = (way.name(), places.pairs.len());
     for number in beam.place.numbers(way, count) {
         if number >= count {
@@ -64,13 +64,13 @@ fn give_beam(places: &mut Places, way: Way, beam: &Given<Lines>) -> Result<(), S
 }
 
 pub fn offsets(
-    offsets: &[Given<[usize; 2]>],
+    offsets: &[Pair<[usize; 2]>],
     nx: usize,
     ny: usize,
     faults: &mut Vec<Fault>,
 ) -> Vec<[u32; 2]> {
     let mut columns = Places::new((nx + 1) * (ny + 1));
-    for &Given {
+    for &Pair {
         line,
         place: [i, j],
         pair,

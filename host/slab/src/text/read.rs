@@ -8,7 +8,7 @@ use super::places;
 use crate::file::{Floor, MOST_COLUMNS};
 
 /// Two numbers that a line of the text gives to a place of the floor.
-pub struct Given<P> {
+pub struct Pair<P> {
     pub line: usize,
     pub place: P,
     pub pair: [u32; 2],
@@ -21,8 +21,8 @@ struct Draft {
     lines: usize,
     /// Of each form the line that has it and its numbers, if they could be read.
     once: [Option<(usize, Option<Vec<u32>>)>; FORMS.len()],
-    beams: Vec<Given<Lines>>,
-    offsets: Vec<Given<[usize; 2]>>,
+    beams: Vec<Pair<Lines>>,
+    offsets: Vec<Pair<[usize; 2]>>,
     faults: Vec<Fault>,
 }
 
@@ -54,12 +54,12 @@ impl Draft {
         match said(line) {
             Ok(Said::Nothing) => (),
             Ok(Said::Once(form, numbers)) => self.take_once(form, numbers),
-            Ok(Said::Beam(place, pair)) => self.beams.push(Given {
+            Ok(Said::Beam(place, pair)) => self.beams.push(Pair {
                 line: number,
                 place,
                 pair,
             }),
-            Ok(Said::Offset(place, pair)) => self.offsets.push(Given {
+            Ok(Said::Offset(place, pair)) => self.offsets.push(Pair {
                 line: number,
                 place,
                 pair,

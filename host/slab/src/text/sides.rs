@@ -18,7 +18,7 @@ pub(super) fn read(words: &mut Words) -> Result<u32, String> {
         let code = words.one_of(&CODES);
         let code = code.ok_or_else(|| words.instead_of("columns, unrestrained or restrained"))?;
         if codes[side].replace(code as u32).is_some() {
-            return Err(format!("the {} side is given twice", SIDES[side]));
+            return Err(format!("expected the {} side once", SIDES[side]));
         }
     }
     let missing = (0..4).find(|&side| codes[side].is_none());

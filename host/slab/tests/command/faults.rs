@@ -50,7 +50,7 @@ fn faults_of_sides() {
         ),
         (
             "sides west columns west columns",
-            "the west side is given twice",
+            "expected the west side once",
         ),
         (
             "sides columns columns",
