@@ -249,14 +249,12 @@ fn what_is_missing() {
 
 #[test]
 fn all_faults_together_by_line() {
-    let text = with_line("concrete", "concrete thirty").replace("live", "life")
-        + "slab 1\nx line 9 beam 1 1";
-    let lines: Vec<usize> = faults(text.as_bytes())
-        .iter()
-        .map(|fault| fault.line)
-        .collect();
-    // `live` is missed at the end, which is line 12.
-    assert_eq!(lines, [2, 5, 11, 12, 12]);
+    let text = with_line("concrete", "concrete thirty").replace("live", "life");
+    let text = format!("x line 9 beam 1 1\n{text}slab 1");
+    let faults = faults(text.as_bytes());
+    let lines: Vec<usize> = faults.iter().map(|fault| fault.line).collect();
+    // `live` is missed at the end, which is line 12, as is the second slab.
+    assert_eq!(lines, [1, 3, 6, 12, 12]);
 }
 
 #[test]
