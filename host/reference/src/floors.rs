@@ -5,7 +5,7 @@ pub mod drawn;
 mod edges;
 pub mod long;
 pub mod refused;
-mod small;
+pub mod small;
 mod spoilt;
 
 use crate::builder::Floor;

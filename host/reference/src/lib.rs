@@ -8,6 +8,7 @@ pub mod builder;
 pub mod cases;
 pub mod change;
 pub mod draw;
+pub mod figures;
 pub mod floor_file;
 pub mod floors;
 pub mod frame;

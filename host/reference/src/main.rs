@@ -2,7 +2,7 @@ use reference::garage::garage;
 use reference::sheet::{line, sheet};
 use reference::steel::{answer, Query};
 use reference::verdict::judged;
-use reference::{cases, queries, runs, vectors};
+use reference::{cases, figures, queries, runs, vectors};
 use std::io::{Read, Write};
 use std::path::Path;
 use std::process::ExitCode;
@@ -17,6 +17,8 @@ const USAGE: &str = "usage:
   reference runs DIR      write a few short runs of changes to DIR/stdin and DIR/stdout
   reference garage        write the bytes of the example floor to standard output
   reference queries DIR   write a few steel queries to DIR/stdin and DIR/stdout
+  reference figures DIR   write the floors of the figures that are run to DIR/stdin, and every
+                          figure's line to DIR/stdout
   reference steel M B T D FC FY
                           print refusal and area of a steel query";
 
@@ -43,6 +45,12 @@ fn write_queries(folder: &Path) -> io::Result<()> {
     fs::create_dir_all(folder)?;
     fs::write(folder.join("stdin"), queries::stdin(&queries))?;
     fs::write(folder.join("stdout"), queries::stdout(&queries))
+}
+
+fn write_figures(folder: &Path) -> io::Result<()> {
+    fs::create_dir_all(folder)?;
+    fs::write(folder.join("stdin"), figures::stdin())?;
+    fs::write(folder.join("stdout"), figures::stdout())
 }
 
 fn print_steel(words: [&str; 6]) -> io::Result<()> {
@@ -77,6 +85,7 @@ fn main() -> ExitCode {
         ["runs", folder] => write_runs(Path::new(folder)),
         ["garage"] => write_garage(),
         ["queries", folder] => write_queries(Path::new(folder)),
+        ["figures", folder] => write_figures(Path::new(folder)),
         ["steel", m, b, t, d, fc, fy] => print_steel([m, b, t, d, fc, fy]),
         _ => {
             eprintln!("{USAGE}");

@@ -20,7 +20,7 @@ const SIZES: [(usize, usize); 10] = [
 
 /// "One bay each way, spans 4,000, t 200, fc 30, fy 420, D 5,000, L 2,000, columns 400, sides 0, no
 /// beams, no offsets (14 records) prints only `0 1`."
-fn one_bay() -> Floor {
+pub fn one_bay() -> Floor {
     Floor {
         x_spans: vec![4_000],
         y_spans: vec![4_000],

@@ -1,0 +1,2 @@
+pub mod OneSpan
+pub mod Meaning

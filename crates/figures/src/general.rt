@@ -1,0 +1,90 @@
+// Document 004: General Example 1, of which the moments are asked of the whole floor, and the flat slab with capitals.
+use crate::beams::thousands;
+use crate::compare::formula;
+use crate::edge::edge_strip;
+use crate::edge::edge_width;
+use crate::limits::unlikeness;
+use rules::section::Section;
+use rules::section::edge_torsion;
+use rules::span::clear_length;
+use rules::span::span_ratio;
+use rules::span::static_moment;
+use rules::span::torsion_ratio;
+use rules::strip::between;
+use rules::strip::inner_negative;
+use rules::strip::outer_negative;
+ghost use Prim.Native.Nat.{_≤_};
+
+// T of the outer beams B5, across the frame, and B1.
+fn b5() -> u64
+    ensures { λ r. ⌜ r ≤ 440000000000000 ⌝ }
+{
+    edge_torsion(Section::of(300, 700), 180)
+}
+
+fn b1() -> u64
+    ensures { λ r. ⌜ r ≤ 440000000000000 ⌝ }
+{
+    edge_torsion(Section::of(300, 600), 180)
+}
+
+fn torsions() {
+    formula(
+        412,
+        4353000,
+        thousands(Section::of(820, 180).torsion() + Section::of(300, 520).torsion()),
+    );
+    formula(413, 5191000, thousands(b5()));
+    formula(
+        414,
+        3258000,
+        thousands(Section::of(720, 180).torsion() + Section::of(300, 420).torsion()),
+    );
+    formula(415, 4295000, thousands(b1()));
+    formula(416, 6930, torsion_ratio(b5(), 8000, 180));
+    formula(417, 7360, torsion_ratio(b1(), 6000, 180));
+}
+
+// The panels A to D, by the document's own α, whose factor is another.
+fn panels() {
+    formula(408, 9700, unlikeness(38230 + 24440, 80, 82670 + 32590, 60));
+    formula(409, 7540, unlikeness(24440 + 24440, 80, 82670 + 32590, 60));
+    formula(410, 17100, unlikeness(38230 + 24440, 80, 32590 + 32590, 60));
+    formula(411, 13330, unlikeness(24440 + 24440, 80, 32590 + 32590, 60));
+}
+
+fn widths() {
+    let width = edge_width(8000, 600);
+    let strip = edge_strip(6000, 8000, 600);
+    formula(406, 3300, edge_width(6000, 600));
+    formula(418, 4300, width);
+    formula(419, 5400, clear_length(6000, 600));
+    formula(450, 1800, strip);
+    formula(451, 2500, width - strip);
+}
+
+fn parts() {
+    let r = span_ratio(8000, 6000);
+    formula(421, 13330, r);
+    formula(
+        422,
+        9030,
+        outer_negative(10000, r, torsion_ratio(b5(), 8000, 180)),
+    );
+    formula(423, 6500, between(10000, r));
+    formula(424, 6500, inner_negative(10000, r));
+}
+
+// Its 15 kN/m² are factored: 01 has them of D 12,500 alone.
+fn capitals() {
+    formula(452, 372400, static_moment(12500, 0, 6000, 5754));
+    formula(453, 296600, static_moment(12500, 0, 7000, 4754));
+}
+
+pub fn all() {
+    panels();
+    torsions();
+    widths();
+    parts();
+    capitals();
+}
