@@ -68,6 +68,23 @@ fn unlike_neighbours() -> Asked {
     judged(101, 4, middle_bay(3_500))
 }
 
+fn floor_with_beams() -> Floor {
+    Floor {
+        t: 165,
+        fc: 21,
+        fy: 280,
+        dead: 3_960,
+        live: 5_750,
+        cx: 370,
+        cy: 370,
+        x_spans: vec![7_600; 3],
+        y_spans: vec![6_000; 3],
+        x_lines: vec![(350, 700); 4],
+        y_lines: vec![(300, 600); 4],
+        ..Floor::clear(3, 3)
+    }
+}
+
 /// Document 000: Example (6) of the limits, Examples (1) and (2). The frame is x line 1.
 fn with_beams() -> Asked {
     let end = Along::X { line: 1, span: 0 };
@@ -93,22 +110,8 @@ fn with_beams() -> Asked {
             [191_450, 155_648, 132_300, 23_347, 35_802],
         ),
     ];
-    let floor = Floor {
-        t: 165,
-        fc: 21,
-        fy: 280,
-        dead: 3_960,
-        live: 5_750,
-        cx: 370,
-        cy: 370,
-        x_spans: vec![7_600; 3],
-        y_spans: vec![6_000; 3],
-        x_lines: vec![(350, 700); 4],
-        y_lines: vec![(300, 600); 4],
-        ..Floor::clear(3, 3)
-    };
     Asked {
-        floor,
+        floor: floor_with_beams(),
         questions: questions.concat(),
     }
 }
