@@ -5,13 +5,13 @@ use rules::line::column_strip_width;
 use rules::line::frame_width;
 use rules::section::Section;
 use rules::section::edge_torsion;
-use rules::span::clear_length;
-use rules::span::span_ratio;
-use rules::span::torsion_ratio;
-use rules::strip::between;
-use rules::strip::inner_negative;
-use rules::strip::outer_negative;
 use steel::steel;
+use strips::span::clear_length;
+use strips::span::span_ratio;
+use strips::span::torsion_ratio;
+use strips::strip::between;
+use strips::strip::inner_negative;
+use strips::strip::outer_negative;
 ghost use Prim.Native.Nat.{_≤_};
 
 // A constant C of the documents in 1,000 mm⁴: 01's T is 300·C.

@@ -6,13 +6,13 @@ use crate::edge::edge_width;
 use crate::limits::unlikeness;
 use rules::section::Section;
 use rules::section::edge_torsion;
-use rules::span::clear_length;
-use rules::span::span_ratio;
-use rules::span::static_moment;
-use rules::span::torsion_ratio;
-use rules::strip::between;
-use rules::strip::inner_negative;
-use rules::strip::outer_negative;
+use strips::span::clear_length;
+use strips::span::span_ratio;
+use strips::span::static_moment;
+use strips::span::torsion_ratio;
+use strips::strip::between;
+use strips::strip::inner_negative;
+use strips::strip::outer_negative;
 ghost use Prim.Native.Nat.{_≤_};
 
 // T of the outer beams B5, across the frame, and B1.

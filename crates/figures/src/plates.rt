@@ -6,8 +6,8 @@ use crate::edge::edge_width;
 use rules::line::alpha;
 use rules::line::column_strip_width;
 use rules::section::Section;
-use rules::span::clear_length;
 use steel::steel;
+use strips::span::clear_length;
 
 // Example (4), 1: the outer frame along y.
 fn along_y() {

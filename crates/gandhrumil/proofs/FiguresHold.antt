@@ -6,9 +6,9 @@ use Rattle.numbers.specs.Figures.{wrong}
 use Rattle.rules.specs.Sections.{inertia, torsion, flange, edgeTorsion}
 use Rattle.rules.specs.Lines.{alpha}
 use Rattle.rules.specs.LeastThickness.{stiff, middling, tabled, leastThickness}
-use Rattle.rules.specs.Moments.{staticMoment}
-use Rattle.rules.specs.Ratios.{torsionRatio}
-use Rattle.rules.specs.Strips.{part, outerNegative, beamShare, split}
+use Rattle.strips.specs.Moments.{staticMoment}
+use Rattle.strips.specs.Ratios.{torsionRatio}
+use Rattle.strips.specs.Strips.{part, outerNegative, beamShare, split}
 use Rattle.steel.specs.Query.{depthListed, gradeListed, inRange, defaultDepth, depthOf}
 use Rattle.steel.specs.Area.{K}
 use Rattle.steel.specs.Search.{first, firstWithin, leastWithin}

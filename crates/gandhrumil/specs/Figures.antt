@@ -4,14 +4,14 @@ use mathlib.Core.Bool.{true, false}
 use mathlib.Core.List.{List, [], _∷_}
 use Prim.Native.Nat.{ℕ}
 use Rattle.numbers.specs.Figures.{Figure, figure}
-use Rattle.rules.specs.declared.strip.Strips.{Strips}
 use Rattle.rules.specs.declared.thickness.Place.the-variants.{Inner}
 use Rattle.rules.specs.Sections.{edgeTorsion}
 use Rattle.rules.specs.Lines.{alpha}
 use Rattle.rules.specs.LeastThickness.{leastThickness}
-use Rattle.rules.specs.Moments.{staticMoment}
-use Rattle.rules.specs.Ratios.{torsionRatio}
-use Rattle.rules.specs.Strips.{between, innerNegative, outerNegative, columnStrip, split}
+use Rattle.strips.specs.declared.strip.Strips.{Strips}
+use Rattle.strips.specs.Moments.{staticMoment}
+use Rattle.strips.specs.Ratios.{torsionRatio}
+use Rattle.strips.specs.Strips.{between, innerNegative, outerNegative, columnStrip, split}
 use Rattle.steel.specs.Steel.{steelOf}
 
 -- "Total 38,290,000, part 8131, A 10000"

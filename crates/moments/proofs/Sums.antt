@@ -11,7 +11,7 @@ use Rattle.spans.specs.Sixteen.{sixteen, endStrips, betweenStrips}
 use Rattle.spans.specs.Workable.{ClearSpan}
 use Rattle.spans.proofs.Clear.{workable, one-outer}
 use Rattle.spans.proofs.Whole.{sections, balanced}
-use Rattle.rules.specs.Strips.{split}
+use Rattle.strips.specs.Strips.{split}
 use Rattle.tables.specs.Width.{recordWidth}
 use Rattle.tables.specs.Places.{Place, Inside}
 use Rattle.frames.specs.Table.{viewIn}

@@ -1,9 +1,3 @@
 pub mod Widths
 pub mod Stiffness
 pub mod Thinnest
-pub mod Moments
-pub mod EndTable
-pub mod Ratios
-pub mod Parts
-pub mod Signed
-pub mod Strips

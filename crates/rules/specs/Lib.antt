@@ -2,8 +2,3 @@ pub mod Sizes
 pub mod Sections
 pub mod Lines
 pub mod LeastThickness
-pub mod MomentRanges
-pub mod Moments
-pub mod EndTable
-pub mod Ratios
-pub mod Strips

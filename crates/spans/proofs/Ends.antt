@@ -4,9 +4,9 @@ use Prim.Native.Nat.{ℕ}
 use mathlib.Core.Bool.{true, false}
 use mathlib.Core.Path.{_≡_}
 use borrow.Author.Tests.{eq-eqb, ne-eqb}
-use Rattle.rules.specs.declared.strip.Strips.{Strips}
-use Rattle.rules.specs.EndTable.{sectionTotal}
-use Rattle.rules.specs.Strips.{innerNegative, evenStrip, columnStrip, split}
+use Rattle.strips.specs.declared.strip.Strips.{Strips}
+use Rattle.strips.specs.EndTable.{sectionTotal}
+use Rattle.strips.specs.Strips.{innerNegative, evenStrip, columnStrip, split}
 use Rattle.spans.specs.declared.view.EndView.{EndView}
 use Rattle.spans.specs.declared.work.SpanWork.{SpanWork}
 use Rattle.spans.specs.Sixteen.{endPercentOf, outerPart, endColumn, endStrips}

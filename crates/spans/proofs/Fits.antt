@@ -3,7 +3,7 @@
 use mathlib.Core.Path.{_≡_, refl}
 use native.Mathlib.Omega.{arith}
 use lib.ListN.{length}
-use Rattle.rules.specs.declared.strip.Strips.{Strips}
+use Rattle.strips.specs.declared.strip.Strips.{Strips}
 use Rattle.spans.specs.declared.view.View.{View}
 use Rattle.tables.specs.Width.{recordWidth}
 use Rattle.spans.specs.Sixteen.{sixteen}

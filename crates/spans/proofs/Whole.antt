@@ -13,14 +13,14 @@ use borrow.Author.Needs.{needs}
 use Rattle.numbers.proofs.Bounded.{_⊗_}
 use Rattle.numbers.proofs.Rounded.{share≤}
 use Rattle.floor.specs.declared.layout.Layout.{Layout}
-use Rattle.rules.specs.declared.endspan.SpanPlace.{SpanPlace}
-use Rattle.rules.specs.declared.endspan.SpanPlace.the-variants.{OuterEnd, Between, InnerEnd}
-use Rattle.rules.specs.MomentRanges.{Crossing, ShareRatios}
-use Rattle.rules.specs.Strips.{part, split}
-use Rattle.rules.proofs.EndTable.{percent-most, inner-most, end-balance, inner-balance}
-use Rattle.rules.proofs.Ratios.{torsion-most}
-use Rattle.rules.proofs.Parts.{part-in, outer-in}
-use Rattle.rules.proofs.Strips.{beam≤, split-whole}
+use Rattle.strips.specs.declared.endspan.SpanPlace.{SpanPlace}
+use Rattle.strips.specs.declared.endspan.SpanPlace.the-variants.{OuterEnd, Between, InnerEnd}
+use Rattle.strips.specs.MomentRanges.{Crossing, ShareRatios}
+use Rattle.strips.specs.Strips.{part, split}
+use Rattle.strips.proofs.EndTable.{percent-most, inner-most, end-balance, inner-balance}
+use Rattle.strips.proofs.Ratios.{torsion-most}
+use Rattle.strips.proofs.Parts.{part-in, outer-in}
+use Rattle.strips.proofs.Strips.{beam≤, split-whole}
 use Rattle.spans.specs.declared.view.EndView.{EndView}
 use Rattle.spans.specs.declared.view.View.{View}
 use Rattle.spans.specs.declared.work.SpanWork.{SpanWork}

@@ -5,13 +5,13 @@
 -- Assumes nothing.
 use Prim.Native.Nat.{ℕ, _≤_}
 use mathlib.Core.Path.{_≡_, refl, sym, subst}
-use Rattle.rules.specs.Moments.{clearLength, staticMoment}
-use Rattle.rules.specs.MomentRanges.{Loaded, Stiffened, Proportioned}
-use Rattle.rules.specs.Ratios.{stiffnessRatio, spanRatio}
-use Rattle.rules.proofs.Moments.{clear-most, moment-most}
-use Rattle.rules.proofs.Ratios.{stiffness-most, ratio-in}
 use Rattle.rules.proofs.Widths.{transverse-in, frame-in, strip-most}
 use Rattle.rules.proofs.Stiffness.{alpha-most}
+use Rattle.strips.specs.Moments.{clearLength, staticMoment}
+use Rattle.strips.specs.MomentRanges.{Loaded, Stiffened, Proportioned}
+use Rattle.strips.specs.Ratios.{stiffnessRatio, spanRatio}
+use Rattle.strips.proofs.Moments.{clear-most, moment-most}
+use Rattle.strips.proofs.Ratios.{stiffness-most, ratio-in}
 use Rattle.spans.specs.declared.view.EndView.{EndView}
 use Rattle.spans.specs.declared.view.View.{View}
 use Rattle.spans.specs.declared.work.LineWork.{LineWork}

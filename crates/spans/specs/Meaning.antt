@@ -6,7 +6,7 @@ use mathlib.Core.Bool.{Bool, false, cond, _&&_}
 use mathlib.Core.List.{List, [], _∷_}
 use mathlib.Core.Path.{_≡_}
 use lib.Dec.{eqb}
-use Rattle.rules.specs.declared.strip.Strips.{Strips}
+use Rattle.strips.specs.declared.strip.Strips.{Strips}
 use Rattle.spans.specs.declared.view.EndView.{EndView}
 use Rattle.spans.specs.declared.work.SpanWork.{SpanWork}
 use Rattle.spans.specs.Sixteen.{endTotal, betweenTotal}

@@ -5,13 +5,13 @@ use mathlib.Core.Bool.{cond}
 use mathlib.Core.List.{List, [], _∷_, _++_}
 use lib.Dec.{eqb}
 use Rattle.floor.specs.declared.layout.Layout.{Layout}
-use Rattle.rules.specs.declared.endspan.SpanPlace.{SpanPlace}
-use Rattle.rules.specs.declared.endspan.SpanPlace.the-variants.{OuterEnd, Between, InnerEnd}
-use Rattle.rules.specs.declared.strip.Strips.{Strips}
 use Rattle.rules.specs.Sections.{edgeTorsion}
-use Rattle.rules.specs.EndTable.{sectionTotal, innerPercent, endPercent}
-use Rattle.rules.specs.Ratios.{torsionRatio}
-use Rattle.rules.specs.Strips.{between, innerNegative, outerNegative, evenStrip, columnStrip, split}
+use Rattle.strips.specs.declared.endspan.SpanPlace.{SpanPlace}
+use Rattle.strips.specs.declared.endspan.SpanPlace.the-variants.{OuterEnd, Between, InnerEnd}
+use Rattle.strips.specs.declared.strip.Strips.{Strips}
+use Rattle.strips.specs.EndTable.{sectionTotal, innerPercent, endPercent}
+use Rattle.strips.specs.Ratios.{torsionRatio}
+use Rattle.strips.specs.Strips.{between, innerNegative, outerNegative, evenStrip, columnStrip, split}
 use Rattle.spans.specs.declared.view.EndView.{EndView}
 use Rattle.spans.specs.declared.view.View.{View}
 use Rattle.spans.specs.declared.work.SpanWork.{SpanWork}

@@ -8,7 +8,7 @@ use Rattle.plan.specs.declared.ways.Way.{Way}
 use Rattle.plan.specs.Plan.{bays, lastLine}
 use Rattle.floor.specs.Refusal.{refusal}
 use Rattle.rules.specs.Sizes.{Beam, Frame, Line}
-use Rattle.rules.specs.MomentRanges.{Spanned}
+use Rattle.strips.specs.MomentRanges.{Spanned}
 use Rattle.verdict.specs.Limits.{verdict}
 use Rattle.spans.specs.declared.view.LineView.{LineView}
 use Rattle.spans.specs.declared.view.EndView.{EndView}

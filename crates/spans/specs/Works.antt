@@ -2,8 +2,8 @@
 -- Assumes nothing.
 use Prim.Native.Nat.{ℕ}
 use Rattle.rules.specs.Lines.{frameWidth, alpha, transverseSpan, columnStripWidth}
-use Rattle.rules.specs.Moments.{clearLength, staticMoment}
-use Rattle.rules.specs.Ratios.{stiffnessRatio, spanRatio}
+use Rattle.strips.specs.Moments.{clearLength, staticMoment}
+use Rattle.strips.specs.Ratios.{stiffnessRatio, spanRatio}
 use Rattle.spans.specs.declared.view.LineView.{LineView}
 use Rattle.spans.specs.declared.view.View.{View}
 use Rattle.spans.specs.declared.work.LineWork.{LineWork}

@@ -10,10 +10,10 @@ use rules::line::column_strip_width;
 use rules::line::frame_width;
 use rules::line::transverse_span;
 use rules::section::Section;
-use rules::span::clear_length;
-use rules::span::span_ratio;
-use rules::span::static_moment;
-use rules::span::stiffness_ratio;
+use strips::span::clear_length;
+use strips::span::span_ratio;
+use strips::span::static_moment;
+use strips::span::stiffness_ratio;
 
 // W, l2 and α of a line: the same for all its spans.
 pub struct LineWork {

@@ -1,0 +1,22 @@
+-- The beam is a part of the column strip, which is a part of the total, so every rest is one and fits 32 bits.
+-- Assumes nothing.
+use borrow.Author.Needs.{needs}
+use Rattle.strips.specs.Strips.{beamShare, split}
+use Rattle.strips.proofs.strip.split.Statement.{statement}
+use Rattle.strips.proofs.strip.split.Tie as tie
+
+pub split-spec : {M : Type 1} → statement M
+unfolding split beamShare
+split-spec =
+    tie.close
+    (tie.spec
+    (λ c. search needs)
+    (λ c κs. search needs)
+    (λ c. search needs)
+    (λ c. search needs)
+    (λ c. search needs)
+    (λ c. search needs)
+    (λ c. search needs)
+    (λ c. search needs)
+    (λ c. search needs)
+    (λ c. cc))
