@@ -65,7 +65,7 @@ const KINDS: [(u128, &str); 9] = [
 ];
 
 /// The fields the table of kinds lists, by kind.
-const LISTED: [(u128, Field, &str); 18] = [
+pub const LISTED: [(u128, Field, &str); 18] = [
     (1, Field::A, "nx"),
     (1, Field::B, "ny"),
     (1, Field::C, "t"),
@@ -103,7 +103,7 @@ const UNLISTED: [(u128, Field, &str); 9] = [
 const STRAY_VALUES: [u128; 3] = [1, 1 << 24, 1 << 31];
 
 /// At and one past both ends of a listed field's range, and inside it what the range leaves out.
-fn tried_values(kind: u128, field: Field) -> &'static [u128] {
+pub fn tried_values(kind: u128, field: Field) -> &'static [u128] {
     match (kind, field) {
         (1, Field::C) => &[0, 89, 90, 500, 501],
         (1, _) => &[0, 1, 2, 12, 13],

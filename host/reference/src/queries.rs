@@ -4,12 +4,12 @@
 //! On standard input a query is six numbers of 8 bytes, little-endian: M, b, t, d, fc, fy. Queries
 //! follow one another to the end. On standard output each has a line of refusal and area.
 
-mod drawn;
+pub mod drawn;
 mod edges;
 pub mod equal;
 pub mod kept;
 mod limits;
-mod steps;
+pub mod steps;
 pub mod strength;
 
 use crate::sheet;

@@ -7,13 +7,13 @@
 //! On standard output a run is a line of refusal and verdict for the opening, if there is one, and for
 //! each change; then a line of the floor's bytes and a line of the table's numbers.
 
-mod changes;
-mod clear;
+pub mod changes;
+pub mod clear;
 pub mod kept;
 mod quiet;
 mod refused;
 mod small;
-mod tables;
+pub mod tables;
 
 use crate::{held, opening, sheet};
 

@@ -137,7 +137,7 @@ fn worst_panel(floor: &Floor) -> u128 {
 
 /// A thinner slab makes its beams stiffer and so, as a rule, no panel ask for more. Where one does, S
 /// having come past 8000, the slab is left too thin, and who wants a clear floor draws again.
-fn no_thicker_than_asked(mut floor: Floor) -> Floor {
+pub fn no_thicker_than_asked(mut floor: Floor) -> Floor {
     loop {
         let worst = worst_panel(&floor);
         if worst >= floor.t {

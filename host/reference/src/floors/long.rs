@@ -7,7 +7,7 @@ use crate::layout::Layout;
 
 const LENGTHS: [usize; 7] = [3_569, 3_583, 3_584, 3_600, 1_000_000, 1_000_001, 1_000_016];
 
-fn garbage(draw: &mut Draw, length: usize) -> Vec<u8> {
+pub fn garbage(draw: &mut Draw, length: usize) -> Vec<u8> {
     (0..length).map(|_| draw.bits() as u8).collect()
 }
 

@@ -72,7 +72,7 @@ pub fn real(draw: &mut Draw) -> Query {
     }
 }
 
-fn any(draw: &mut Draw) -> Query {
+pub fn any(draw: &mut Draw) -> Query {
     Query {
         m: moment(draw, 2_000_000_000),
         ..any_strip(draw)
@@ -80,7 +80,7 @@ fn any(draw: &mut Draw) -> Query {
 }
 
 /// So narrow that each mm² tells.
-fn narrow(draw: &mut Draw) -> Query {
+pub fn narrow(draw: &mut Draw) -> Query {
     Query {
         m: moment(draw, 200_000),
         b: draw.between(1, 40),
@@ -89,7 +89,7 @@ fn narrow(draw: &mut Draw) -> Query {
 }
 
 /// So thick for its depth that the minimum and the strain limit are not far apart.
-fn shallow(draw: &mut Draw) -> Query {
+pub fn shallow(draw: &mut Draw) -> Query {
     Query {
         m: moment(draw, 100_000),
         b: draw.between(1, 3_000),
@@ -101,7 +101,7 @@ fn shallow(draw: &mut Draw) -> Query {
 }
 
 /// One value or two drawn from all numbers of so many bits.
-fn stray(draw: &mut Draw) -> Query {
+pub fn stray(draw: &mut Draw) -> Query {
     let mut numbers = real(draw).numbers();
     for _ in 0..draw.between(1, 2) {
         let place = draw.between(0, 5) as usize;

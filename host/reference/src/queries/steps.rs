@@ -23,7 +23,7 @@ pub fn queries() -> Vec<Described> {
 }
 
 /// Draws until some area fits and what it carries is in range.
-fn strip_and_area(draw: &mut Draw) -> (Query, u128) {
+pub fn strip_and_area(draw: &mut Draw) -> (Query, u128) {
     loop {
         let strip = match draw.percent(60) {
             true => real_strip(draw),

@@ -1,6 +1,6 @@
 //! Changes drawn for a floor: ones that keep it clear, ones that break it, ones that are refused.
 
-mod refused;
+pub mod refused;
 pub mod taken;
 
 use crate::builder::{last_index, record, value, Field};
@@ -15,12 +15,12 @@ pub const KINDS: [u128; 6] = [3, 5, 6, 7, 8, 9];
 /// How often each is drawn until another one is taken in its place.
 const TRIES: usize = 12;
 
-fn any_index(draw: &mut Draw, floor: &[u8], kind: u128) -> u128 {
+pub fn any_index(draw: &mut Draw, floor: &[u8], kind: u128) -> u128 {
     draw.between(0, last_index(floor, kind))
 }
 
 /// The record as it stands in the floor.
-fn held(floor: &[u8], kind: u128, index: u128) -> Vec<u8> {
+pub fn held(floor: &[u8], kind: u128, index: u128) -> Vec<u8> {
     let fields = [Field::A, Field::B, Field::C];
     let fields = fields.map(|field| value(floor, kind, index, field));
     record(kind, index, fields)

@@ -47,7 +47,7 @@ const LARGE: [(usize, usize); 9] = [
 
 const HELD: [Held; 4] = [Held::Right, Held::SomeWrong, Held::AllWrong, Held::Zeros];
 
-fn any_sides(draw: &mut Draw) -> u128 {
+pub fn any_sides(draw: &mut Draw) -> u128 {
     (0..4).fold(0, |sum, _| 4 * sum + draw.between(0, 2))
 }
 

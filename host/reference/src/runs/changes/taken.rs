@@ -50,7 +50,7 @@ pub fn breaking_change(draw: &mut Draw, floor: &[u8]) -> Vec<u8> {
     too_much_live_load(draw)
 }
 
-fn near(draw: &mut Draw, floor: &[u8], kind: u128, index: u128) -> Vec<u8> {
+pub fn near(draw: &mut Draw, floor: &[u8], kind: u128, index: u128) -> Vec<u8> {
     let values = match kind {
         3 => near_loads(draw),
         5 | 6 => near_span(draw, value(floor, kind, index, Field::A)),
@@ -96,7 +96,7 @@ fn too_much_live_load(draw: &mut Draw) -> Vec<u8> {
     record(3, 0, [dead, draw.between(2 * dead + 1, 50_000), 0])
 }
 
-fn far(draw: &mut Draw, floor: &[u8], kind: u128) -> Vec<u8> {
+pub fn far(draw: &mut Draw, floor: &[u8], kind: u128) -> Vec<u8> {
     let index = any_index(draw, floor, kind);
     match kind {
         3 => too_much_live_load(draw),
