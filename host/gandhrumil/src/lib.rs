@@ -9,14 +9,7 @@ pub use calls::Answer;
 /// Opens a floor and fills its table.
 pub fn open(floor: &[u8], table: &mut [u32]) -> Answer {
     // SAFETY: both slices are lent for the call, with their own lengths, and cannot overlap.
-    unsafe {
-        calls::gandhrumil_open(
-            floor.as_ptr(),
-            floor.len(),
-            table.as_mut_ptr(),
-            table.len(),
-        )
-    }
+    unsafe { calls::gandhrumil_open(floor.as_ptr(), floor.len(), table.as_mut_ptr(), table.len()) }
 }
 
 /// Changes one record of a floor, and its table with it.
