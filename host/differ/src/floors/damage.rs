@@ -1,0 +1,123 @@
+//! What befalls a floor's bytes.
+
+use reference::builder::{last_index, value, with, Field};
+use reference::cases::{tried_values, LISTED};
+use reference::draw::Draw;
+use reference::floor_file::{sizes, RECORD_BYTES};
+use reference::floors::long::garbage;
+use reference::panel::{x_spans, y_spans};
+use reference::runs::changes::any_index;
+
+type Damage = fn(&mut Draw, &[u8]) -> Vec<u8>;
+
+const WAYS: [(&str, Damage); 11] = [
+    ("bytes flipped", flipped),
+    ("cut short", cut_short),
+    ("cut short by records", cut_by_records),
+    ("made longer", made_longer),
+    ("records swapped", swapped),
+    ("a value at or past its range", value_at_its_range),
+    ("a value at or past its range", value_at_its_range),
+    ("a record overwritten", overwritten),
+    ("columns too wide", wide_columns),
+    ("a beam put or taken", beam_put_or_taken),
+    ("no floor at all", any_bytes),
+];
+
+/// The damage in words, and the bytes.
+pub fn damaged(draw: &mut Draw, floor: &[u8]) -> (&'static str, Vec<u8>) {
+    let (words, way) = draw.one_of(&WAYS);
+    (words, way(draw, floor))
+}
+
+fn flipped(draw: &mut Draw, floor: &[u8]) -> Vec<u8> {
+    let mut bytes = floor.to_vec();
+    for _ in 0..draw.between(1, 3) {
+        let place = draw.between(0, bytes.len() as u128 - 1) as usize;
+        bytes[place] ^= draw.between(1, 255) as u8;
+    }
+    bytes
+}
+
+fn cut_short(draw: &mut Draw, floor: &[u8]) -> Vec<u8> {
+    let length = draw.between(0, floor.len() as u128 - 1) as usize;
+    floor[..length].to_vec()
+}
+
+fn cut_by_records(draw: &mut Draw, floor: &[u8]) -> Vec<u8> {
+    let records = (floor.len() / RECORD_BYTES) as u128;
+    let kept = draw.between(0, records - 1) as usize;
+    floor[..RECORD_BYTES * kept].to_vec()
+}
+
+/// By any bytes, or by records that stand in it already.
+fn made_longer(draw: &mut Draw, floor: &[u8]) -> Vec<u8> {
+    let more = draw.between(1, 40) as usize;
+    let tail = match draw.percent(50) {
+        true => garbage(draw, more),
+        false => floor[floor.len() - RECORD_BYTES..].repeat(more),
+    };
+    [floor, &tail].concat()
+}
+
+fn any_place(draw: &mut Draw, floor: &[u8]) -> usize {
+    let records = (floor.len() / RECORD_BYTES) as u128;
+    RECORD_BYTES * draw.between(0, records - 1) as usize
+}
+
+/// Records that differ in kind or index, as two of a floor always do; often neighbours.
+fn swapped(draw: &mut Draw, floor: &[u8]) -> Vec<u8> {
+    let one = any_place(draw, floor);
+    let next = (one + RECORD_BYTES) % floor.len();
+    let others = [next, any_place(draw, floor)];
+    let other = draw.one_of(&others);
+    let mut bytes = floor.to_vec();
+    bytes[one..one + RECORD_BYTES].copy_from_slice(&floor[other..other + RECORD_BYTES]);
+    bytes[other..other + RECORD_BYTES].copy_from_slice(&floor[one..one + RECORD_BYTES]);
+    bytes
+}
+
+/// At or past an end of its range, which the floor then takes or refuses.
+fn value_at_its_range(draw: &mut Draw, floor: &[u8]) -> Vec<u8> {
+    let (kind, field, _) = draw.one_of(&LISTED);
+    let index = any_index(draw, floor, kind);
+    let value = draw.one_of(tried_values(kind, field));
+    with(floor, kind, index, field, value)
+}
+
+fn overwritten(draw: &mut Draw, floor: &[u8]) -> Vec<u8> {
+    let place = any_place(draw, floor);
+    let mut bytes = floor.to_vec();
+    bytes[place..place + RECORD_BYTES].copy_from_slice(&garbage(draw, RECORD_BYTES));
+    bytes
+}
+
+/// 6: "2cx exceeds an x span, or 2cy a y span": by 10 or 20, or not yet.
+fn wide_columns(draw: &mut Draw, floor: &[u8]) -> Vec<u8> {
+    let choices = [(Field::A, x_spans(floor)), (Field::B, y_spans(floor))];
+    let (field, spans) = &choices[draw.between(0, 1) as usize];
+    let shortest = spans.iter().min().expect("a bay");
+    let half = shortest / 20 * 10;
+    let column = draw.one_of(&[half, half + 10]).min(1_500);
+    with(floor, 4, 0, *field, column)
+}
+
+/// 7: "layout not allowed, or a line has a beam whose depth is not above t"
+fn beam_put_or_taken(draw: &mut Draw, floor: &[u8]) -> Vec<u8> {
+    let kind = draw.one_of(&[7, 8]);
+    let index = draw.between(0, last_index(floor, kind));
+    let t = sizes(floor).t;
+    let (width, depth) = match value(floor, kind, index, Field::A) {
+        0 => (300, t + 1),
+        width => draw.one_of(&[(0, 0), (width, t), (width, t + 1)]),
+    };
+    let wide = with(floor, kind, index, Field::A, width);
+    with(&wide, kind, index, Field::B, depth)
+}
+
+fn any_bytes(draw: &mut Draw, _: &[u8]) -> Vec<u8> {
+    let length = draw.between(0, 5_000) as usize;
+    let whole_records = length / RECORD_BYTES * RECORD_BYTES;
+    let length = draw.one_of(&[length, whole_records]);
+    garbage(draw, length)
+}

@@ -1,0 +1,47 @@
+//! What the cases of one run of comparisons have in common.
+
+use crate::lent::Room;
+use gandhrumil::{Answer, Query};
+use reference::draw::Draw;
+
+/// The four calls, which a test may put wrong ones in place of.
+#[derive(Clone, Copy)]
+pub struct Calls {
+    pub open: fn(&[u8], &mut [u32]) -> Answer,
+    pub change: fn(&mut [u8], &mut [u32], &[u8]) -> Answer,
+    pub panel: fn(&[u8], u64, u64) -> Answer,
+    pub steel: fn(Query) -> Answer,
+}
+
+pub const LIBRARY: Calls = Calls {
+    open: gandhrumil::open,
+    change: gandhrumil::change,
+    panel: gandhrumil::panel,
+    steel: gandhrumil::steel,
+};
+
+#[derive(Clone, Copy)]
+pub struct Job {
+    pub seed: u64,
+    pub room: Room,
+    pub calls: Calls,
+}
+
+impl Job {
+    pub fn of_the_library(seed: u64) -> Job {
+        Job {
+            seed,
+            room: Room::Guarded,
+            calls: LIBRARY,
+        }
+    }
+
+    /// The sequence of one case.
+    pub fn draw(&self, part: &str, case: u64) -> Draw {
+        let words = part.bytes().map(u64::from).chain([case]);
+        let mixed = words.fold(self.seed, |mixed, word| {
+            Draw::starting_at(mixed ^ word).bits()
+        });
+        Draw::starting_at(mixed)
+    }
+}

@@ -1,0 +1,129 @@
+//! The counts in words.
+
+use crate::tally::{Counts, Opened, Step, Tally};
+use std::fmt::Display;
+
+/// 1234567 as 1,234,567.
+pub fn grouped(number: u64) -> String {
+    let digits = number.to_string();
+    let mut grouped = String::new();
+    for (place, digit) in digits.chars().enumerate() {
+        if place > 0 && (digits.len() - place).is_multiple_of(3) {
+            grouped.push(',');
+        }
+        grouped.push(digit);
+    }
+    grouped
+}
+
+/// "3: 1,204, 5: 77"
+fn listed<K: Ord + Display>(counts: &Counts<K>) -> String {
+    let pairs = counts.iter();
+    let pairs: Vec<String> = pairs
+        .map(|(key, count)| format!("{key}: {}", grouped(count)))
+        .collect();
+    pairs.join(", ")
+}
+
+/// The refusals alone, by their number.
+fn refused<K: Ord>(counts: &Counts<K>, number: impl Fn(&K) -> u128) -> Counts<u128> {
+    let mut refused = Counts::default();
+    for (key, count) in counts.iter() {
+        if number(key) != 0 {
+            refused.add_many(number(key), count);
+        }
+    }
+    refused
+}
+
+fn opened(words: &str, counts: &Counts<Opened>) -> String {
+    let refused = refused(counts, |opened| match opened {
+        Opened::Refused(number) => *number,
+        _ => 0,
+    });
+    format!(
+        "  {words}: {}, of them {} clear, {} broken, {} refused ({})\n",
+        grouped(counts.total()),
+        grouped(counts.of(&Opened::Clear)),
+        grouped(counts.of(&Opened::Broken)),
+        grouped(refused.total()),
+        listed(&refused)
+    )
+}
+
+fn floors(tally: &Tally) -> String {
+    format!(
+        "floors: {}\n{}{}  limits broken: {}\n  clear floors: {}; {} choices of sides\n  bays: {} pairs, 12 by 12 {} times\n",
+        grouped(tally.floors()),
+        opened("undamaged", &tally.undamaged),
+        opened("damaged", &tally.damaged),
+        listed(&tally.limits),
+        listed(&tally.layouts),
+        tally.sides.kinds(),
+        tally.bays.kinds(),
+        grouped(tally.bays.of(&(12, 12))),
+    )
+}
+
+fn queries(name: &str, counts: &Counts<u128>) -> String {
+    let refused = refused(counts, |&number| number);
+    format!(
+        "{name}: {}, of them {} answered, {} refused ({})\n",
+        grouped(counts.total()),
+        grouped(counts.of(&0)),
+        grouped(refused.total()),
+        listed(&refused)
+    )
+}
+
+fn changes(tally: &Tally) -> String {
+    let steps = &tally.changes;
+    let refused = refused(steps, |step| match step {
+        Step::Refused(number) => *number,
+        _ => 0,
+    });
+    let wrong = |(_, right): &(u128, bool)| u128::from(!right);
+    let kept_on_wrong = self::refused(&tally.kept_clear, wrong).total();
+    format!(
+        "changes: {}\n  taken: {} from clear to clear ({} of them on wrong tables), {} into a broken verdict, {} out of one, {} between two\n  \
+         refused: {} ({})\n  on right tables: {}, on wrong tables: {}\n",
+        grouped(steps.total()),
+        grouped(steps.of(&Step::KeptClear)),
+        grouped(kept_on_wrong),
+        grouped(steps.of(&Step::Broke)),
+        grouped(steps.of(&Step::Mended)),
+        grouped(steps.of(&Step::StayedBroken)),
+        grouped(refused.total()),
+        listed(&refused),
+        grouped(tally.on_right_table.of(&true)),
+        grouped(tally.on_right_table.of(&false)),
+    )
+}
+
+pub fn report(tally: &Tally) -> String {
+    [
+        floors(tally),
+        queries("panel queries", &tally.panels),
+        changes(tally),
+        queries("steel queries", &tally.steel),
+    ]
+    .concat()
+}
+
+#[cfg(test)]
+mod tests {
+    use super::*;
+
+    #[test]
+    fn digits_in_groups() {
+        for (number, words) in [
+            (0, "0"),
+            (999, "999"),
+            (1_000, "1,000"),
+            (123_456, "123,456"),
+            (1_234_567, "1,234,567"),
+        ] {
+            assert_eq!(grouped(number), words);
+        }
+    }
+}

@@ -1,0 +1,117 @@
+//! What was compared, by sorts.
+
+use std::collections::BTreeMap;
+
+/// How many there were of each.
+#[derive(Clone, Debug, PartialEq, Eq)]
+pub struct Counts<K: Ord>(BTreeMap<K, u64>);
+
+impl<K: Ord> Default for Counts<K> {
+    fn default() -> Counts<K> {
+        Counts(BTreeMap::new())
+    }
+}
+
+impl<K: Ord> Counts<K> {
+    pub fn add(&mut self, key: K) {
+        self.add_many(key, 1);
+    }
+
+    pub fn add_many(&mut self, key: K, count: u64) {
+        *self.0.entry(key).or_default() += count;
+    }
+
+    pub fn of(&self, key: &K) -> u64 {
+        self.0.get(key).copied().unwrap_or(0)
+    }
+
+    pub fn has(&self, key: &K) -> bool {
+        self.0.contains_key(key)
+    }
+
+    pub fn total(&self) -> u64 {
+        self.0.values().sum()
+    }
+
+    /// How many different ones there were.
+    pub fn kinds(&self) -> usize {
+        self.0.len()
+    }
+
+    pub fn iter(&self) -> impl Iterator<Item = (&K, u64)> {
+        self.0.iter().map(|(key, &count)| (key, count))
+    }
+
+    fn merge(&mut self, other: Counts<K>) {
+        for (key, count) in other.0 {
+            self.add_many(key, count);
+        }
+    }
+}
+
+/// What an opening made of a floor.
+#[derive(Clone, Copy, Debug, PartialEq, Eq, PartialOrd, Ord)]
+pub enum Opened {
+    Clear,
+    Broken,
+    Refused(u128),
+}
+
+/// What a change did.
+#[derive(Clone, Copy, Debug, PartialEq, Eq, PartialOrd, Ord)]
+pub enum Step {
+    KeptClear,
+    Broke,
+    Mended,
+    StayedBroken,
+    Refused(u128),
+}
+
+#[derive(Clone, Debug, Default, PartialEq, Eq)]
+pub struct Tally {
+    /// Floors that were drawn, and are as they were drawn or at the edge of a limit.
+    pub undamaged: Counts<Opened>,
+    pub damaged: Counts<Opened>,
+    /// Of the floors that are not refused: the limits that they break, and bays.
+    pub limits: Counts<u128>,
+    pub bays: Counts<(u128, u128)>,
+    /// Of the clear ones.
+    pub layouts: Counts<&'static str>,
+    pub sides: Counts<u128>,
+    /// Panel queries, by their refusal or 0.
+    pub panels: Counts<u128>,
+    pub changes: Counts<Step>,
+    /// Of those that kept a clear floor clear: their kind, and whether the table was right before.
+    pub kept_clear: Counts<(u128, bool)>,
+    /// All changes, by whether the table was right before.
+    pub on_right_table: Counts<bool>,
+    /// Steel queries, by their refusal or 0.
+    pub steel: Counts<u128>,
+    /// Where lent buffers started, from one address that 16 divides to the next.
+    pub floor_addresses: Counts<usize>,
+    pub table_addresses: Counts<usize>,
+    pub change_addresses: Counts<usize>,
+}
+
+impl Tally {
+    pub fn merge(&mut self, other: Tally) {
+        self.undamaged.merge(other.undamaged);
+        self.damaged.merge(other.damaged);
+        self.limits.merge(other.limits);
+        self.bays.merge(other.bays);
+        self.layouts.merge(other.layouts);
+        self.sides.merge(other.sides);
+        self.panels.merge(other.panels);
+        self.changes.merge(other.changes);
+        self.kept_clear.merge(other.kept_clear);
+        self.on_right_table.merge(other.on_right_table);
+        self.steel.merge(other.steel);
+        self.floor_addresses.merge(other.floor_addresses);
+        self.table_addresses.merge(other.table_addresses);
+        self.change_addresses.merge(other.change_addresses);
+    }
+
+    pub fn floors(&self) -> u64 {
+        self.undamaged.total() + self.damaged.total()
+    }
+}

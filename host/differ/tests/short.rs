@@ -1,0 +1,85 @@
+//! The library held against the reference, with a fixed seed. `differ long` compares far more.
+
+use differ::job::Job;
+use differ::lent::Room;
+use differ::tally::Tally;
+use differ::variety;
+use differ::work::{parts, Amount, Part, SHORT};
+
+const SEED: u64 = 1;
+
+fn compared(job: &Job, part: Part, threads: usize) -> Tally {
+    let compared = part.compare(job, 0..part.cases, threads);
+    compared.unwrap_or_else(|difference| panic!("{difference}"))
+}
+
+#[test]
+fn floors() {
+    let [floors, flipped, ..] = parts(SHORT);
+    let job = Job::of_the_library(SEED);
+    let mut tally = compared(&job, floors, 1);
+    assert!(tally.floors() >= SHORT.floors);
+    tally.merge(compared(&job, flipped, 1));
+    assert_eq!(variety::floors(&tally), [""; 0]);
+}
+
+#[test]
+fn changes() {
+    let [_, _, changes, _] = parts(SHORT);
+    let tally = compared(&Job::of_the_library(SEED), changes, 1);
+    assert!(tally.changes.total() >= SHORT.changes);
+    assert_eq!(variety::changes(&tally), [""; 0]);
+}
+
+#[test]
+fn steel() {
+    let [.., steel] = parts(SHORT);
+    let tally = compared(&Job::of_the_library(SEED), steel, 1);
+    assert!(tally.steel.total() >= SHORT.queries);
+    assert_eq!(variety::steel(&tally), [""; 0]);
+}
+
+const FEW: Amount = Amount {
+    floors: 80,
+    flipped: 1,
+    changes: 300,
+    queries: 1_000,
+};
+
+fn few_compared(job: &Job, threads: usize) -> Tally {
+    let mut tally = Tally::default();
+    for part in parts(FEW) {
+        tally.merge(compared(job, part, threads));
+    }
+    tally
+}
+
+#[test]
+fn in_buffers_with_nothing_after_their_end() {
+    let room = Room::Exact;
+    let tally = few_compared(
+        &Job {
+            room,
+            ..Job::of_the_library(SEED)
+        },
+        1,
+    );
+    assert!(tally.floors() > FEW.floors && tally.changes.total() == FEW.changes);
+}
+
+/// Where buffers lie is up to the allocator.
+fn without_addresses(tally: Tally) -> Tally {
+    Tally {
+        floor_addresses: Default::default(),
+        table_addresses: Default::default(),
+        change_addresses: Default::default(),
+        ..tally
+    }
+}
+
+#[test]
+fn the_seed_alone_decides_what_is_compared() {
+    let with = |seed, threads| without_addresses(few_compared(&Job::of_the_library(seed), threads));
+    assert_eq!(with(2, 1), with(2, 2));
+    assert_ne!(with(2, 1), with(3, 1));
+}
