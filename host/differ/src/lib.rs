@@ -4,6 +4,7 @@
 //! Work comes in parts, a part in numbered cases. Each case draws from a sequence of its own, so that seed,
 //! part and number bring it back, and how many threads there are alters nothing.
 
+pub mod case;
 pub mod floors;
 pub mod job;
 pub mod lent;

@@ -1,9 +1,8 @@
 //! The panel queries of one floor.
 
-use crate::job::Job;
+use crate::case::Case;
 use crate::lent::Lent;
 use crate::same::same_answer;
-use crate::tally::Tally;
 use reference::draw::Draw;
 use reference::floor_file::{refusal, sizes, Sizes, SUCCESS};
 use reference::panel::{panel, panels};
@@ -25,20 +24,14 @@ fn asked(draw: &mut Draw, floor: &[u8]) -> Vec<(u64, u64)> {
     asked
 }
 
-pub fn compare(
-    job: &Job,
-    draw: &mut Draw,
-    floor: &[u8],
-    lent: &Lent<u8>,
-    tally: &mut Tally,
-) -> Result<(), String> {
-    for (x, y) in asked(draw, floor) {
-        let answer = (job.calls.panel)(lent.numbers(), x, y);
+pub fn compare(case: &mut Case, floor: &[u8], lent: &Lent<u8>) -> Result<(), String> {
+    for (x, y) in asked(&mut case.draw, floor) {
+        let answer = (case.job.calls.panel)(lent.numbers(), x, y);
         let right = panel(floor, x.into(), y.into());
         same_answer(answer, right)
             .and_then(|()| lent.holds("floor", floor))
             .map_err(|words| format!("panel {x}, {y}: {words}"))?;
-        tally.panels.add(right.0);
+        case.tally.panels.add(right.0);
     }
     Ok(())
 }

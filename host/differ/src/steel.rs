@@ -1,8 +1,7 @@
 //! Steel queries, each answered by brute force too.
 
-use crate::job::Job;
+use crate::case::Case;
 use crate::same::same_answer;
-use crate::tally::Tally;
 use reference::draw::Draw;
 use reference::queries::drawn::{any, narrow, real, shallow, stray};
 use reference::queries::steps::strip_and_area;
@@ -12,14 +11,19 @@ use reference::steel::{answer, Query};
 /// Queries in a case.
 pub const QUERIES: u64 = 500;
 
-pub fn case(job: &Job, draw: &mut Draw, tally: &mut Tally) -> Result<(), String> {
+pub fn case(case: &mut Case) -> Result<(), String> {
     for _ in 0..QUERIES {
-        let query = drawn(draw);
-        let right = answer(query);
-        same_answer((job.calls.steel)(as_lent(query)), right)
-            .map_err(|words| format!("{query:?}: {words}"))?;
-        tally.steel.add(right.0);
+        let query = drawn(&mut case.draw);
+        compare(case, query)?;
     }
+    Ok(())
+}
+
+pub fn compare(case: &mut Case, query: Query) -> Result<(), String> {
+    let right = answer(query);
+    same_answer((case.job.calls.steel)(as_lent(query)), right)
+        .map_err(|words| format!("{query:?}: {words}"))?;
+    case.tally.steel.add(right.0);
     Ok(())
 }
 

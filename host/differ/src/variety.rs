@@ -2,6 +2,7 @@
 
 use crate::tally::{Counts, Opened, Step, Tally};
 use reference::runs::changes::KINDS;
+use std::collections::BTreeSet;
 
 /// Each that is not there, in words.
 fn missing<K: Ord + Copy>(
@@ -23,11 +24,9 @@ fn unless(holds: bool, words: impl Into<String>) -> Vec<String> {
 
 /// "nx 1..12", "ny 1..12"
 fn missing_bays(tally: &Tally) -> Vec<String> {
-    let has = |bays: u128| {
-        let mut found = tally.bays.iter();
-        found.any(|(&(nx, _), _)| nx == bays) && tally.bays.iter().any(|(&(_, ny), _)| ny == bays)
-    };
-    let missing = (1..=12).filter(|&bays| !has(bays));
+    let found = tally.bays.iter().map(|(&bays, _)| bays);
+    let (nx, ny): (BTreeSet<u128>, BTreeSet<u128>) = found.unzip();
+    let missing = (1..=12).filter(|bays| !nx.contains(bays) || !ny.contains(bays));
     missing
         .map(|bays| format!("{bays} bays each way"))
         .collect()

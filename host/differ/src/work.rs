@@ -1,9 +1,10 @@
 //! Parts of the work and their cases, shared among threads.
 
+use crate::case::Case;
+use crate::floors::{self, flips};
 use crate::job::Job;
 use crate::tally::Tally;
-use crate::{floors, runs, steel};
-use reference::draw::Draw;
+use crate::{runs, steel};
 use std::fmt;
 use std::ops::Range;
 use std::thread;
@@ -20,10 +21,10 @@ pub struct Amount {
 
 /// What cargo test compares.
 pub const SHORT: Amount = Amount {
-    floors: 6_000,
+    floors: 4_000,
     flipped: 12,
-    changes: 24_000,
-    queries: 50_000,
+    changes: 16_000,
+    queries: 40_000,
 };
 
 pub const LONG: Amount = Amount {
@@ -40,7 +41,8 @@ pub const UNDER_VALGRIND: Amount = Amount {
     queries: 5_000,
 };
 
-type Case = fn(&Job, &mut Draw, u64, &mut Tally) -> Result<(), String>;
+/// Told its number besides.
+type Compare = fn(&mut Case, u64) -> Result<(), String>;
 
 #[derive(Clone, Copy)]
 pub struct Part {
@@ -48,41 +50,33 @@ pub struct Part {
     /// Of what there are so many in a case.
     pub in_a_case: u64,
     pub cases: u64,
-    case: Case,
+    compare: Compare,
 }
 
 pub fn parts(amount: Amount) -> [Part; 4] {
-    let part = |name, asked: u64, in_a_case, case| Part {
+    let part = |name, asked: u64, in_a_case, compare| Part {
         name,
         in_a_case,
         cases: asked.div_ceil(in_a_case),
-        case,
+        compare,
     };
+    let Amount {
+        floors,
+        flipped,
+        changes,
+        queries,
+    } = amount;
     [
-        part(
-            "floors",
-            amount.floors,
-            floors::FLOORS,
-            |job, draw, _, tally| floors::case(job, draw, tally),
-        ),
-        part(
-            "floors with every byte flipped",
-            amount.flipped,
-            1,
-            floors::flips::case,
-        ),
-        part(
-            "changes",
-            amount.changes,
-            runs::CHANGES,
-            |job, draw, _, tally| runs::case(job, draw, tally),
-        ),
-        part(
-            "steel queries",
-            amount.queries,
-            steel::QUERIES,
-            |job, draw, _, tally| steel::case(job, draw, tally),
-        ),
+        part("floors", floors, floors::FLOORS, |case, _| {
+            floors::case(case)
+        }),
+        part("floors with every byte flipped", flipped, 1, flips::case),
+        part("changes", changes, runs::CHANGES, |case, _| {
+            runs::case(case)
+        }),
+        part("steel queries", queries, steel::QUERIES, |case, _| {
+            steel::case(case)
+        }),
     ]
 }
 
@@ -108,12 +102,13 @@ impl fmt::Display for Difference {
 }
 
 impl Part {
-    fn case(&self, job: &Job, case: u64, tally: &mut Tally) -> Result<(), Difference> {
-        let mut draw = job.draw(self.name, case);
-        (self.case)(job, &mut draw, case, tally).map_err(|words| Difference {
+    fn case(&self, job: &Job, number: u64, tally: &mut Tally) -> Result<(), Difference> {
+        let draw = job.draw(self.name, number);
+        let mut case = Case { job, draw, tally };
+        (self.compare)(&mut case, number).map_err(|words| Difference {
             seed: job.seed,
             part: self.name,
-            case,
+            case: number,
             words,
         })
     }

@@ -1,6 +1,8 @@
 //! Wrong libraries in place of the right one: each is found out.
 
 use differ::job::{Calls, Job, LIBRARY};
+use differ::tally::Tally;
+use differ::variety;
 use differ::work::{parts, Amount};
 use gandhrumil::{Answer, Query};
 
@@ -187,4 +189,23 @@ fn a_difference_names_its_case() {
         noticed.starts_with("difference: seed 1, steel queries, case 0: Query {"),
         "{noticed}"
     );
+}
+
+/// Where nothing is drawn every sort is missed.
+#[test]
+fn what_never_came_up() {
+    let missed = variety::all(&Tally::default());
+    for words in [
+        "a floor that breaks limit 32",
+        "a damaged floor: Refused(8)",
+        "a panel query: refusal 10",
+        "12 bays each way",
+        "some choice of sides",
+        "a change: Mended",
+        "a change: Refused(9)",
+        "a change of kind 8 that keeps a floor clear, its table right: false",
+        "a steel query: refusal 12",
+    ] {
+        assert!(missed.iter().any(|one| one == words), "{words}");
+    }
 }

@@ -1,10 +1,8 @@
 //! Every byte of a good floor flipped, one at a time.
 
 use super::drawn::of_bays;
-use super::{compare, DAMAGED};
-use crate::job::Job;
-use crate::tally::Tally;
-use reference::draw::Draw;
+use super::spoilt;
+use crate::case::Case;
 use reference::floors::LAYOUTS;
 
 /// The lowest bit, the highest, all of them, and at last any.
@@ -14,17 +12,16 @@ const WAYS: [Option<u8>; 4] = [Some(0x01), Some(0x80), Some(0xff), None];
 const BAYS: [(usize, usize); 4] = [(3, 3), (1, 1), (4, 3), (12, 12)];
 
 /// One floor with one way: each way and each layout in a dozen of cases.
-pub fn case(job: &Job, draw: &mut Draw, number: u64, tally: &mut Tally) -> Result<(), String> {
+pub fn case(case: &mut Case, number: u64) -> Result<(), String> {
     let number = number as usize;
     let way = WAYS[number % 4];
     let (layout, _) = LAYOUTS[number / 4 % 3];
-    let floor = of_bays(draw, BAYS[number / 12 % 4], layout).bytes();
+    let floor = of_bays(&mut case.draw, BAYS[number / 12 % 4], layout).bytes();
     for place in 0..floor.len() {
-        let bits = way.unwrap_or(draw.between(1, 255) as u8);
+        let bits = way.unwrap_or(case.draw.between(1, 255) as u8);
         let mut bytes = floor.clone();
         bytes[place] ^= bits;
-        let words = format!("{DAMAGED}byte {place} flipped by {bits:#x}");
-        compare(job, draw, &words, &bytes, tally)?;
+        spoilt(case, &format!("byte {place} flipped by {bits:#x}"), &bytes)?;
     }
     Ok(())
 }

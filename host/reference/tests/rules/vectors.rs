@@ -10,7 +10,7 @@ use std::process::Command;
 /// The folder of the vectors that are kept, and the command to run beside it.
 const KEPT: &str = concat!(env!("CARGO_MANIFEST_DIR"), "/../../crates/floor_vectors");
 const RENEW: &str = "renew them, in the folder that holds host and crates, with \
-    cargo run --manifest-path host/Cargo.toml --offline --release -- vectors crates/floor_vectors";
+    cargo run --manifest-path host/Cargo.toml --offline --release -p reference -- vectors crates/floor_vectors";
 
 fn written_by_the_command(name: &str) -> (Vec<u8>, Vec<u8>) {
     let folder = PathBuf::from(env!("CARGO_TARGET_TMPDIR")).join(name);

@@ -1,0 +1,59 @@
+//! What the reference describes one by one, held against the library too.
+
+use differ::case::Case;
+use differ::job::Job;
+use differ::tally::Tally;
+use differ::{floors, runs, steel};
+use reference::draw::Draw;
+
+/// Compares each with a description.
+fn compare_all<T>(
+    described: &[T],
+    description: fn(&T) -> &str,
+    compare: impl Fn(&mut Case, &T) -> Result<(), String>,
+) -> Tally {
+    let job = Job::of_the_library(1);
+    let mut tally = Tally::default();
+    let mut case = Case {
+        job: &job,
+        draw: Draw::starting_at(job.seed),
+        tally: &mut tally,
+    };
+    for one in described {
+        let compared = compare(&mut case, one);
+        compared.unwrap_or_else(|words| panic!("{}: {words}", description(one)));
+    }
+    tally
+}
+
+/// Up to 1,000,016 bytes.
+#[test]
+fn floors_and_inputs_longer_than_any_floor() {
+    let mut described = reference::floors::all();
+    described.extend(reference::floors::long::inputs());
+    let tally = compare_all(
+        &described,
+        |floor| &floor.description,
+        |case, floor| floors::undamaged(case, "described", &floor.bytes),
+    );
+    assert_eq!(tally.floors(), described.len() as u64);
+}
+
+#[test]
+fn changes() {
+    let described = reference::runs::all();
+    let tally = compare_all(&described, |run| &run.description, runs::replay);
+    let changes: usize = described.iter().map(|run| run.changes.len()).sum();
+    assert_eq!(tally.changes.total(), changes as u64);
+}
+
+#[test]
+fn steel_queries() {
+    let described = reference::queries::all();
+    let tally = compare_all(
+        &described,
+        |given| &given.description,
+        |case, given| steel::compare(case, given.query),
+    );
+    assert_eq!(tally.steel.total(), described.len() as u64);
+}
