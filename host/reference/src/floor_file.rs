@@ -26,10 +26,14 @@ fn number(bytes: &[u8]) -> u128 {
         .fold(0, |higher, &byte| 256 * higher + u128::from(byte))
 }
 
+fn kind_of(record: &[u8]) -> u128 {
+    number(&record[0..2])
+}
+
 impl Record {
     pub fn read(bytes: &[u8]) -> Record {
         Record {
-            kind: number(&bytes[0..2]),
+            kind: kind_of(bytes),
             index: number(&bytes[2..4]),
             a: number(&bytes[4..8]),
             b: number(&bytes[8..12]),
@@ -44,9 +48,9 @@ pub fn records(floor: &[u8]) -> Vec<Record> {
 
 /// Speaks of the floor's records of one kind only where refusal 4 does not apply.
 pub fn records_of_kind(floor: &[u8], kind: u128) -> Vec<Record> {
-    let mut found = records(floor);
-    found.retain(|record| record.kind == kind);
-    found
+    let all = floor.chunks_exact(RECORD_BYTES);
+    let of_kind = all.filter(|bytes| kind_of(bytes) == kind);
+    of_kind.map(Record::read).collect()
 }
 
 /// "bays nx 1..12, bays ny 1..12, slab t 90..500"
@@ -58,7 +62,7 @@ pub struct Sizes {
 }
 
 pub fn sizes(floor: &[u8]) -> Sizes {
-    let first = records(floor)[0];
+    let first = Record::read(floor);
     Sizes {
         nx: first.a,
         ny: first.b,
