@@ -130,17 +130,25 @@ mod tests {
         }
     }
 
-    /// Bytes at all sixteen addresses, numbers at all four.
+    fn counts_of_addresses<T: Number>(room: Room, contents: &[T]) -> [u32; 16] {
+        let mut draw = Draw::starting_at(3);
+        let mut counts = [0; 16];
+        for _ in 0..1_000 {
+            counts[Lent::new(&mut draw, room, contents).address()] += 1;
+        }
+        counts
+    }
+
+    /// Bytes at all sixteen addresses, numbers at all four that they may have.
     #[test]
     fn every_address_comes_up() {
-        let mut draw = Draw::starting_at(3);
         for room in [Room::Guarded, Room::Exact] {
-            let mut addresses = [0; 16];
-            for _ in 0..1_000 {
-                addresses[Lent::new(&mut draw, room, &[0_u8; 16]).address()] += 1;
-                addresses[Lent::new(&mut draw, room, &[0_u32; 16]).address()] += 1;
-            }
-            assert!(addresses.iter().all(|&count| count >= 10), "{addresses:?}");
+            let bytes = counts_of_addresses(room, &[0_u8; 16]);
+            assert!(bytes.iter().all(|&count| count >= 10), "{bytes:?}");
+            let numbers = counts_of_addresses(room, &[0_u32; 16]);
+            let fourths = numbers.iter().step_by(4);
+            assert!(fourths.clone().all(|&count| count >= 10), "{numbers:?}");
+            assert_eq!(fourths.sum::<u32>(), 1_000);
         }
     }
 }

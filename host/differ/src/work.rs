@@ -35,19 +35,19 @@ pub const LONG: Amount = Amount {
 };
 
 pub const UNDER_VALGRIND: Amount = Amount {
-    floors: 800,
-    flipped: 2,
-    changes: 3_000,
-    queries: 5_000,
+    floors: 2_000,
+    flipped: 4,
+    changes: 6_000,
+    queries: 10_000,
 };
 
-/// Told its number besides.
+/// How a case compares, told its number.
 type Compare = fn(&mut Case, u64) -> Result<(), String>;
 
 #[derive(Clone, Copy)]
 pub struct Part {
     pub name: &'static str,
-    /// Of what there are so many in a case.
+    /// How many floors, changes or queries a case has.
     pub in_a_case: u64,
     pub cases: u64,
     compare: Compare,
@@ -113,7 +113,7 @@ impl Part {
         })
     }
 
-    /// The cases of one thread: every so many'th.
+    /// The cases of one thread: from its first one on, past those of the other threads.
     fn share(&self, job: &Job, cases: Range<u64>, threads: usize) -> Result<Tally, Difference> {
         let mut tally = Tally::default();
         for case in cases.step_by(threads) {
@@ -122,7 +122,7 @@ impl Part {
         Ok(tally)
     }
 
-    /// Stops at the first difference, of each thread.
+    /// Each thread stops at its first difference.
     pub fn compare(
         &self,
         job: &Job,
