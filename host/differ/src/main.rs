@@ -48,6 +48,9 @@ fn compare_part(
     let began = Instant::now();
     for tenth in 0..10 {
         let cases = part.cases * tenth / 10..part.cases * (tenth + 1) / 10;
+        if cases.is_empty() {
+            continue;
+        }
         let done = grouped(cases.end * part.in_a_case);
         tally.merge(part.compare(job, cases, threads)?);
         let seconds = began.elapsed().as_secs();
