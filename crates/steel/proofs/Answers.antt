@@ -85,7 +85,7 @@ module _ (M b t d fc fy : ℕ) where
   unfolding steelOf
   steel-answer =
       by-test (SteelAnswer M b t d fc fy) (says-in-range M b t d fc fy)
-      (λ r. answer-within (searchable M t (strain-range r)) (meets-within M t (strain-range r)) r)
+      (λ r. answer-within (searchable r) (meets-within M t (strain-range r)) r)
       outside
 
   pub steel-answer-one : {a b′ : Answer} → SteelAnswer M b t d fc fy a → SteelAnswer M b t d fc fy b′ → a ≡ b′

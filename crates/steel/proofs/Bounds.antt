@@ -1,5 +1,5 @@
 -- The limits that a query sets are 01's three inequalities: n ≤ k·As is "As is at least n/k rounded up", k·As ≤ n is "at most n/k rounded down".
--- Every area within the strain limit lies left of the parabola's top, so what is in 01's brackets is not negative there.
+-- Every area within the strain limit lies left of the parabola's top, so what is in 01's brackets is not negative there, and the tangent rises.
 -- Assumes nothing.
 use Prim.Native.Nat.{ℕ, _-_, _*_, _/_, _≤_, _<_}
 use mathlib.Core.Bool.{Bool, true, false, cond}
@@ -12,12 +12,13 @@ use borrow.Author.Tests.{le-leb, leb-true}
 use Rattle.numbers.specs.Rounding.{up}
 use Rattle.numbers.proofs.Bounded.{_⊗_, #, over, pos-of}
 use Rattle.numbers.proofs.Rounded.{up-reaches, up-first}
+use Rattle.steel.specs.Query.{InRange, depthOf}
 use Rattle.steel.specs.Area.{K, Meets}
 use Rattle.steel.specs.Search.{Carries, Within, Searchable}
 use Rattle.steel.specs.Ranges.{StrainRange}
-use Rattle.steel.specs.Steel.{minimumArea, strainArea, limitsAt}
+use Rattle.steel.specs.Steel.{minimumArea, strainArea, limitsAt, limitsOf}
 use Rattle.steel.proofs.Carrying.{says-carries}
-use Rattle.steel.proofs.Ranges.{k-most}
+use Rattle.steel.proofs.Ranges.{k-most, strain-range, depth-range}
 
 -- a multiple that reaches n, and one that stays within n
 at-least : (n As : ℕ) {k : ℕ} → 0 < k → (n ≤ k * As) ↔ (up n k ≤ As)
@@ -44,8 +45,8 @@ module _ (M : ℕ) {b d fc fy : ℕ} (t : ℕ) (r : StrainRange b d fc fy) where
   unfolding strainArea
   strain-is As = at-most (51 * K fc * fc * b * d) 224000 As fy (pos-of (# 224000 ⊗ r .grade .0) tt)
 
-  -- an area within the strain limit lies left of the parabola's top, which is at half of what makes 01's brackets 0
-  pub left-of-top : (As : ℕ) → 224000 * As * fy ≤ 51 * K fc * fc * b * d → 20 * As * fy ≤ 17 * fc * b * d
+  -- an area within the strain limit is at most half of the one at the parabola's top, which is half of what makes 01's brackets 0
+  pub left-of-top : (As : ℕ) → 224000 * As * fy ≤ 51 * K fc * fc * b * d → 40 * As * fy ≤ 17 * fc * b * d
   left-of-top As h = omega (arith, h, # 51 ⊗ k-most fc ⊗ # fc ⊗ # b ⊗ # d)
 
   -- so there 01's inequality over the integers is the one over the naturals
@@ -63,13 +64,20 @@ module _ (M : ℕ) {b d fc fy : ℕ} (t : ℕ) (r : StrainRange b d fc fy) where
     λ w. record { moment = w .moment; minimum = minimum-is As .1 (w .minimum); strain = strain-is As .1 (w .strain) },
   )
 
-  pub searchable : Searchable (limitsAt M b t d fc fy)
+module _ {M b t d fc fy : ℕ} (q : InRange M b t d fc fy) where
+  pub searchable : Searchable (limitsOf M b t d fc fy)
   unfolding limitsAt strainArea
   searchable =
+      let r = strain-range q in
+      let most = strainArea b (depthOf d t) fc fy in
       record {
-        top = record {
-          rising = left-of-top (strainArea b d fc fy) (strain-is (strainArea b d fc fy) .1 (le-refl (strainArea b d fc fy)));
-          room = # 17 ⊗ r .concrete ⊗ r .width ⊗ r .depth;
-          short = lt-of-le-of-lt (over (# 51 ⊗ k-most fc ⊗ r .concrete ⊗ r .width ⊗ r .depth) (# 224000 ⊗ r .grade .0) tt) (lit< tt);
-        };
+        rising = omega (
+          arith,
+          left-of-top M t r most (strain-is M t r most .1 (le-refl most)),
+          # 17 ⊗ q .concrete .0 ⊗ q .width .0 ⊗ depth-range q .0,
+        );
+        grade = (omega (arith, r .grade .0), r .grade .1);
+        room = # 17 ⊗ r .concrete ⊗ r .width ⊗ r .depth;
+        heaviest = # 1700 ⊗ r .concrete ⊗ r .width ⊗ q .moment;
+        short = lt-of-le-of-lt (over (# 51 ⊗ k-most fc ⊗ r .concrete ⊗ r .width ⊗ r .depth) (# 224000 ⊗ r .grade .0) tt) (lit< tt);
       }

@@ -40,12 +40,14 @@ module _ {M b t d fc fy : ℕ} (r : InRange M b t d fc fy) where
   pub grade-range : (280 ≤ fy) × (fy ≤ 520)
   grade-range = ⊎-elim (λ e. omega arith) (⊎-elim (λ e. omega arith) (λ e. omega arith)) (r .grade)
 
-  pub depth-most : depthOf d t ≤ 475
+  pub depth-range : (50 ≤ depthOf d t) × (depthOf d t ≤ 475)
   unfolding depthOf defaultDepth
-  depth-most = by-test (λ n. n ≤ 475) (says-eq d 0) (λ e. omega arith) (λ n. ⊎-elim (λ h. omega arith) (λ e. absurd (n e)) (r .depth))
+  depth-range =
+      by-test (λ n. (50 ≤ n) × (n ≤ 475)) (says-eq d 0) (λ e. (omega arith, omega arith))
+      (λ n. ⊎-elim (λ h. (h .0, omega arith)) (λ e. absurd (n e)) (r .depth))
 
   pub minimum-range : MinimumRange b t fy
   minimum-range = record { width = r .width .1; thickness = r .thickness .1; grade = grade-range }
 
   pub strain-range : StrainRange b (depthOf d t) fc fy
-  strain-range = record { width = r .width .1; depth = depth-most; concrete = r .concrete .1; grade = grade-range }
+  strain-range = record { width = r .width .1; depth = depth-range .1; concrete = r .concrete .1; grade = grade-range }

@@ -40,17 +40,10 @@ leastWithin l = cond (ltb (l .most) (firstWithin l)) (answer 12 0) (answer 0 (fi
 
 -- ---- what the search may rely on
 
--- an area left of the parabola's top, up to which a larger area carries more; and each product of the moment's fits 64 bits
-pub record Left (fy block As : ℕ) : Type 0 where
-  pub rising : 20 * As * fy ≤ block
-  pub room : block ≤ 5814000000
-  pub short : As < 2 ^ 32
-
--- so is each area of a stretch
-pub record Rising (fy block from end : ℕ) : Type 0 where
-  pub order : from ≤ end
-  pub left : (As : ℕ) → from ≤ As → As < end → Left fy block As
-
--- so is each area up to the largest
+-- up to the largest area each one lies left of the parabola's top, where the tangent still rises; and each product fits 64 bits
 pub record Searchable (l : Limits) : Type 0 where
-  pub top : Left (l .fy) (l .block) (l .most)
+  pub rising : 20 * l .most * l .fy < l .block
+  pub grade : (0 < l .fy) × (l .fy ≤ 520)
+  pub room : l .block ≤ 5814000000
+  pub heaviest : l .load ≤ 2448000000000000000
+  pub short : l .most < 2 ^ 32

@@ -1,6 +1,7 @@
 // Slab steel: the least whole area of a query.
 mod limits;
 mod query;
+mod rounding;
 mod search;
 
 ghost use mathlib.Core.Path.{_≡_};

@@ -1,11 +1,11 @@
 // The limits that a query sets to its area.
 use crate::query::depth_of;
+use crate::rounding::rounded_up;
 use crate::search::Limits;
 ghost use mathlib.Core.Path.{_≡_};
-ghost use Rattle.numbers.specs.Rounding.{up};
 ghost use Rattle.steel.specs.Area.{K};
 ghost use Rattle.steel.specs.Query.{InRange};
-ghost use Rattle.steel.specs.Ranges.{Quotient, MinimumRange, StrainRange};
+ghost use Rattle.steel.specs.Ranges.{MinimumRange, StrainRange};
 ghost use Rattle.steel.specs.Steel.{minimumArea, strainArea, limitsOf};
 
 fn k_of(fc: u64) -> u64
@@ -18,14 +18,6 @@ fn k_of(fc: u64) -> u64
         return 910;
     }
     1470 - 10 * fc
-}
-
-// n/d, rounded up.
-fn rounded_up(n: u64, d: u64) -> u64
-    requires { ⌜ Quotient n d ⌝ }
-    ensures { λ r. ⌜ r ≡ up n d ⌝ }
-{
-    (n + (d - 1)) / d
 }
 
 // The least As that reaches the minimum.

@@ -1,9 +1,8 @@
 // The least area over any limits: what an edition asks enters by its numbers alone.
-use numbers::larger;
+use crate::rounding::rounded_up;
 use verdict::Answer;
 ghost use mathlib.Core.Path.{_≡_};
-ghost use Prim.Native.Nat.{_-_};
-ghost use Rattle.steel.specs.Search.{Left, Rising, Searchable, carries, first, leastWithin};
+ghost use Rattle.steel.specs.Search.{Searchable, leastWithin};
 
 // An area As carries the moment where 9·As·fy·(block − 10·As·fy) ≥ load; it is to lie from `least` to `most`.
 pub struct Limits {
@@ -14,31 +13,8 @@ pub struct Limits {
     pub most: u64,
 }
 
-fn carries(fy: u64, block: u64, load: u64, area: u64) -> bool
-    requires { ⌜ Left fy block area ⌝ }
-    ensures { λ r. ⌜ r ≡ carries fy block load area ⌝ }
-{
-    load <= 9 * area * fy * (block - 10 * area * fy)
-}
-
-// The first area from `from` on, below `end`, that carries the moment; `end` where none does.
-fn first_from(fy: u64, block: u64, load: u64, from: u64, end: u64) -> u64
-    requires { ⌜ Rising fy block from end ⌝ }
-    ensures { λ r. ⌜ r ≡ first (carries fy block load) (end - from) from ⌝ }
-{
-    let mut low = from;
-    let mut high = end;
-    while low < high {
-        let middle = low + (high - low) / 2;
-        if carries(fy, block, load, middle) {
-            high = middle;
-        } else {
-            low = middle + 1;
-        }
-    }
-    low
-}
-
+// What an area carries bends down as the area grows: its tangent at an area that is too small meets the load at none that is too large.
+// That meeting, rounded up, is the next area tried.
 pub fn least_within(l: Limits) -> Answer
     requires { ⌜ Searchable l ⌝ }
     ensures { λ r. ⌜ r ≡ leastWithin l ⌝ }
@@ -46,17 +22,21 @@ pub fn least_within(l: Limits) -> Answer
     let fy = l.fy;
     let block = l.block;
     let load = l.load;
-    let least = l.least;
     let most = l.most;
-    let area = first_from(fy, block, load, least, larger(least, most + 1));
-    if most < area {
-        return Answer {
-            refusal: 12,
-            value: 0,
-        };
+    let mut area = l.least;
+    while area <= most {
+        let tension = area * fy;
+        let carried = 9 * tension * (block - 10 * tension);
+        if load <= carried {
+            return Answer {
+                refusal: 0,
+                value: area as u32,
+            };
+        }
+        area += rounded_up(load - carried, 9 * fy * (block - 20 * tension));
     }
     Answer {
-        refusal: 0,
-        value: area as u32,
+        refusal: 12,
+        value: 0,
     }
 }

@@ -5,7 +5,7 @@ use borrow.Author.Needs.{needs}
 use borrow.Author.Tests.{not-true, not-false}
 use Rattle.steel.specs.Query.{InRange}
 use Rattle.steel.specs.Steel.{steelOf}
-use Rattle.steel.proofs.Ranges.{says-in-range, strain-range}
+use Rattle.steel.proofs.Ranges.{says-in-range}
 use Rattle.steel.proofs.Bounds.{searchable}
 use Rattle.steel.proofs.steel.Statement.{statement}
 use Rattle.steel.proofs.steel.Tie as tie
@@ -21,5 +21,5 @@ steel-spec =
     (λ c κs. search needs)
     (λ c. rw (← c .before .in-range .ensures, not-true (c .before .in-range .result) (c .if1 .taken)))
     (λ c κs. in-range c)
-    (λ c κs. rw (c .limits-of .ensures) (searchable _ _ (strain-range (in-range (c .before)))))
+    (λ c κs. rw (c .limits-of .ensures) (searchable (in-range (c .before))))
     (λ c. rw (← c .before .before .before .in-range .ensures, not-false (c .before .before .before .in-range .result) (c .before .before .if1 .left), ← c .before .limits-of .ensures) (c .least-within .ensures)))

@@ -4,7 +4,7 @@ use borrow.Author.Needs.{needs}
 use native.Mathlib.Omega.{arith}
 use Rattle.numbers.proofs.Bounded.{_⊗_, #, upto, fits}
 use Rattle.steel.specs.Steel.{limitsAt}
-use Rattle.steel.proofs.Ranges.{minimum-range, strain-range, depth-most}
+use Rattle.steel.proofs.Ranges.{minimum-range, strain-range, depth-range}
 use Rattle.steel.proofs.limits.limits_of.Statement.{statement}
 use Rattle.steel.proofs.limits.limits_of.Tie as tie
 
@@ -19,7 +19,7 @@ limits-of-spec =
     (λ c. search needs)
     (λ c. let r = c .before .before .before .pre in fits (# _ ⊗ r .concrete .1 ⊗ r .width .1) tt)
     (λ c. let r = c .before .before .before .pre in
-    fits (# _ ⊗ r .concrete .1 ⊗ r .width .1 ⊗ upto 475 (omega (arith, depth-most r))) tt)
+    fits (# _ ⊗ r .concrete .1 ⊗ r .width .1 ⊗ upto 475 (omega (arith, depth-range r .1))) tt)
     (λ c. search needs)
     (λ c. let r = c .before .before .before .pre in fits (# _ ⊗ r .concrete .1 ⊗ r .width .1) tt)
     (λ c. let r = c .before .before .before .pre in fits (# _ ⊗ r .concrete .1 ⊗ r .width .1 ⊗ r .moment) tt)
