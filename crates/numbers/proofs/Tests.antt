@@ -1,9 +1,11 @@
 -- What a test says, by its form, and the laws of a loop that stops at the first number whose test answers w.
 -- One text serves "every" (w false) and "some" (w true): a loop that stops early and one that runs to its end differ in w alone.
 --     none, more, found, done     the loop's four places: entry, one turn more, an early answer, its end
+--     until-same                  the same loop, with tests that answer the same
 --     at, intro                   a test of every number, taken apart and put together
 --     says-..                     the parts of a test: a law of meaning is one term of these
 --     by-test, by-says, fails     a test whose meaning is known, put to use
+--     says-one                    two tests of one meaning
 -- Assumes nothing.
 use mathlib.Core.Bool.{Bool, true, false, not, cond, _||_, _&&_, false≢true}
 use mathlib.Core.Path.{_≡_, refl, sym, subst, _∙_}
@@ -52,6 +54,12 @@ found w (suc n) k p l e =
 
 pub done : (w : Bool) (k n : ℕ) (p : ℕ → Bool) → k ≤ n → n ≤ k → until w k p ≡ not w → until w n p ≡ not w
 done w k n p h l e = let q : k ≡ n = omega arith in rw q at e
+
+-- tests that answer the same below n
+pub until-same : (w : Bool) (n : ℕ) (p q : ℕ → Bool) → All n (λ k. p k ≡ q k) → until w n p ≡ until w n q
+unfolding until
+until-same w zero p q h = refl
+until-same w (suc n) p q h = rw (until-same w n p q (λ k l. h k (omega arith)), h n (omega arith))
 
 -- ---- every number below n
 
@@ -124,6 +132,11 @@ says-same {a = false} p q =
 -- where the meaning does not hold the test is false
 pub fails : {b : Bool} {P : Type 0} → Says b P → (P → ⊥) → b ≡ false
 fails s q = not-true _ (says-not s .passes q)
+
+-- two tests that say the same are equal
+pub says-one : {a b : Bool} {P : Type 0} → Says a P → Says b P → a ≡ b
+says-one {a = true} p q = sym (q .passes (p .holds refl))
+says-one {a = false} p q = sym (fails q (λ h. false≢true (p .passes h)))
 
 -- what is chosen by a test has G if either choice has, given what the test said
 pub by-test : {b : Bool} {P A : Type 0} {x y : A} (G : A → Type 0) → Says b P → (P → G x) → ((P → ⊥) → G y) → G (cond b x y)
