@@ -19,8 +19,10 @@ fn next(n: u64) {
 }
 
 fn offset_at(f: &[u8], d: Way, i: u32) -> u32 {
-    let row = plan::bays(f, Way::X) + 1;
-    plan::offset(f, d, i % row, i / row)
+    let nx = plan::bays(f, Way::X);
+    let ny = plan::bays(f, Way::Y);
+    let row = nx + 1;
+    plan::offset(f, nx, ny, d, i % row, i / row)
 }
 
 fn number(f: &[u8], d: Way, sum: Sum, i: u32) -> u32 {

@@ -14,13 +14,14 @@ use Rattle.records.proofs.Places.{count-most}
 use Rattle.plan.specs.declared.ways.Way.{Way}
 use Rattle.plan.specs.declared.ways.Way.the-variants.{X, Y}
 use Rattle.plan.specs.Plan.{bays, lastLine}
+use Rattle.plan.proofs.Reading.{bays-most}
 use Rattle.floor.proofs.Fair.{fair}
 use Rattle.spans.specs.declared.view.SlabView.{SlabView}
 use Rattle.tables.specs.declared.named.Spans.{Spans}
 use Rattle.tables.specs.Width.{recordWidth}
 use Rattle.tables.specs.Places.{firstOf, lineFirst}
 use Rattle.tables.specs.Named.{namedSpans, namedAt, Naming}
-use Rattle.tables.proofs.Numbered.{bays-most, lines-sum-y}
+use Rattle.tables.proofs.Numbered.{lines-sum-y}
 use Rattle.tables.proofs.Meaning.{to-most, from-most, line-written}
 use Rattle.frames.specs.Held.{Slabbed, AtLine, AtSpans}
 use Rattle.frames.specs.Table.{recordAt, renamed}

@@ -10,6 +10,7 @@ use Rattle.numbers.proofs.Written.{from-more}
 use Rattle.plan.specs.declared.ways.Way.{Way}
 use Rattle.plan.specs.Ways.{across}
 use Rattle.plan.specs.Plan.{bays, span}
+use Rattle.plan.proofs.Reading.{bays-most}
 use Rattle.floor.proofs.Fair.{fair}
 use Rattle.spans.specs.declared.view.SlabView.{SlabView}
 use Rattle.spans.specs.declared.view.LineView.{LineView}
@@ -23,7 +24,7 @@ use Rattle.spans.proofs.Clear.{workable}
 use Rattle.tables.specs.declared.named.Spans.{Spans}
 use Rattle.tables.specs.Width.{recordWidth}
 use Rattle.tables.specs.Places.{Place, Inside, placeOf, lineFirst}
-use Rattle.tables.proofs.Numbered.{bays-most, number-place, number-below, place-inside}
+use Rattle.tables.proofs.Numbered.{number-place, number-below, place-inside}
 use Rattle.frames.specs.Held.{AtSpans, AtSpan}
 use Rattle.frames.specs.Table.{viewAt, recordAt}
 

@@ -4,7 +4,7 @@ ghost use Prim.Native.Nat.{_≤_};
 ghost use Rattle.floor.specs.Fair.{Accepted};
 ghost use Rattle.rules.specs.Sizes.{Frame};
 ghost use Rattle.lines.specs.Lines.{outer, below, lineWidth, lineAlpha};
-ghost use Rattle.lines.specs.Held.{OnLine, Alphas, Pair, pairAt};
+ghost use Rattle.lines.specs.Held.{OnLine, Spans, Alphas, Pair, pairAt};
 use floor::layout::outer_line;
 use plan::ways::Way;
 use plan::ways::across;
@@ -49,6 +49,19 @@ pub fn line_alpha(f: &[u8], d: Way, l: u32) -> u64
     let beam = Section::of(width as u64, depth as u64);
     let t = plan::thickness(f);
     alpha(outer(f, d, l), beam, line_width(f, d, l), t as u64)
+}
+
+// Every span along d, and zeros past the last: read once for all panels.
+pub fn spans(f: &[u8], d: Way) -> [u64; 13]
+    ensures { λ r. ⌜ Spans (now (f .entry)) d r ⌝ }
+{
+    let mut s = [0u64; 13];
+    let mut k: u32 = 0;
+    while k < 13 {
+        s[k as usize] = plan::span(f, d, k) as u64;
+        k += 1;
+    }
+    s
 }
 
 // α of every line along d. A line borders two rows of panels, so each is worked out once for all of them.

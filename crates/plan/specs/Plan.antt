@@ -3,6 +3,7 @@
 use Prim.Native.Nat.{ℕ, _+_, _*_, _/_, _%_}
 use mathlib.Core.Bool.{cond, _&&_}
 use mathlib.Core.List.{List}
+use mathlib.Core.Path.{_≡_}
 use lib.Dec.{ltb, leb}
 use Rattle.records.specs.Kinds.{countOf, startOf}
 use Rattle.plan.specs.declared.ways.Way.{Way}
@@ -73,3 +74,8 @@ beamDepth f d l = value f (lineKind d) l 2
 unfoldable pub offset : List ℕ → Way → ℕ → ℕ → ℕ
 offset f d i j =
     cond (leb i (bays f X) && leb j (bays f Y)) (value f 9 (j * (bays f X + 1) + i) (partOf d)) 0
+
+-- the bays of a floor, as its reader has them at hand
+pub record Sized (f : List ℕ) (nx ny : ℕ) : Type 0 where
+  pub x : nx ≡ bays f X
+  pub y : ny ≡ bays f Y

@@ -22,14 +22,18 @@ fn four(a: u8, b: u8, c: u8, d: u8) -> u32
     (a as u32) + 256 * (b as u32) + 65536 * (c as u32) + 16777216 * (d as u32)
 }
 
+// One test for all bytes of a field, here and in u32_at: a record's fields are read far more often than a file's end is met.
 pub fn u16_at(f: &[u8], at: u32) -> u32
     ensures { λ r. ⌜ r ≡ le16 (now (f .entry)) at ⌝ }
 {
     let i = at as usize;
-    two(byte(f, i), byte(f, i + 1))
+    if i + 2 <= f.len() {
+        two(f[i], f[i + 1])
+    } else {
+        two(byte(f, i), byte(f, i + 1))
+    }
 }
 
-// One test for the whole word: a record's fields are read far more often than a file's end is met.
 pub fn u32_at(f: &[u8], at: u32) -> u32
     ensures { λ r. ⌜ r ≡ le32 (now (f .entry)) at ⌝ }
 {

@@ -4,7 +4,7 @@ pub mod ways;
 
 ghost use mathlib.Core.Path.{_≡_};
 ghost use Prim.Native.Nat.{_≤_, _<_};
-ghost use Rattle.plan.specs.Plan.{few, bays, value, thickness, strength, grade, dead, live, column, side, span, lastLine, beamWidth, beamDepth, offset};
+ghost use Rattle.plan.specs.Plan.{few, bays, value, thickness, strength, grade, dead, live, column, side, span, lastLine, beamWidth, beamDepth, offset, Sized};
 use fields::u32_at;
 use records::kinds::count_of;
 use records::kinds::start_of;
@@ -102,16 +102,17 @@ pub fn beam_depth(f: &[u8], d: Way, l: u32) -> u32
     value(f, ways::line_kind(d), l, 2)
 }
 
-pub fn offset(f: &[u8], d: Way, i: u32, j: u32) -> u32
+// The bays are given: the offsets are read for every column of a floor.
+pub fn offset(f: &[u8], nx: u32, ny: u32, d: Way, i: u32, j: u32) -> u32
+    requires { ⌜ Sized (now f) nx ny ⌝ }
     ensures { λ r. ⌜ r ≡ offset (now (f .entry)) d i j ⌝ }
 {
-    let nx = bays(f, Way::X);
-    if i <= nx {
-        if j <= bays(f, Way::Y) {
-            value(f, 9, j * (nx + 1) + i, ways::part_of(d))
-        } else {
-            0
-        }
+    if i <= nx && j <= ny {
+        let column = j * (nx + 1) + i;
+        u32_at(
+            f,
+            (start_of(nx, ny, 9) + column) * 16 + 4 * ways::part_of(d),
+        )
     } else {
         0
     }

@@ -12,8 +12,8 @@ use Rattle.records.proofs.Places.{total-most}
 use Rattle.plan.specs.declared.ways.Way.the-variants.{X, Y}
 use Rattle.plan.specs.Fields.{le16, le32}
 use Rattle.plan.specs.Plan.{bays}
+use Rattle.plan.proofs.Reading.{bays-most}
 use Rattle.floor.specs.Refusal.{unless, lengthOk, firstOk, countOk, refusal}
-use Rattle.tables.proofs.Numbered.{bays-most}
 
 too-many : (f : List ℕ) → 3568 < length f → countOk f ≡ false
 unfolding countOk

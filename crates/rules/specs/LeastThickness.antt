@@ -1,7 +1,7 @@
 -- "Least thickness": what is asked of t, and the number that it comes to.
 -- sn and ln are the panel's shorter and longer clear spans, S the sum of its four line α.
 -- Assumes nothing.
-use Prim.Native.Nat.{ℕ, _+_, _-_, _*_, _≤_, max}
+use Prim.Native.Nat.{ℕ, _+_, _-_, _*_, _≤_, _<_, max}
 use mathlib.Core.Bool.{Bool, cond, _&&_}
 use mathlib.Core.List.{List, [], _∷_}
 use mathlib.Core.Path.{_≡_}
@@ -9,6 +9,7 @@ use lib.ListN.{getD}
 use lib.Dec.{eqb, ltb}
 use Rattle.numbers.specs.Rounding.{up}
 use Rattle.numbers.specs.Least.{Least}
+use Rattle.rules.specs.declared.thickness.Rule.{Rule}
 use Rattle.rules.specs.declared.thickness.Place.{Place}
 use Rattle.rules.specs.declared.thickness.Place.the-variants.{Bare, Edged, Inner}
 
@@ -66,6 +67,13 @@ tabled n ln = max 125 (up ln n)
 unfoldable pub leastThickness : Bool → Place → ℕ → ℕ → ℕ → ℕ → ℕ
 leastThickness everywhere place fy sn ln S =
     byStiffness everywhere S (stiff fy sn ln) (middling fy sn ln S) (tabled (divisor fy place) ln)
+
+-- the numbers of a rule: t is the least that it asks, and none is so large that its quotient or a slab's multiple would not fit
+pub record Asks (t : ℕ) (rule : Rule) : Type 0 where
+  pub is : max (rule .least) (up (rule .n) (rule .d)) ≡ t
+  pub positive : 0 < rule .d
+  pub n-most : rule .n ≤ 10000000000000000
+  pub d-most : rule .d ≤ 40000000000000
 
 -- "Answer the least whole mm t": what is promised of the answer r
 pub record Thinnest (everywhere : Bool) (place : Place) (fy sn ln S r : ℕ) : Type 0 where

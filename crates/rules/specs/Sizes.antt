@@ -1,6 +1,6 @@
 -- What the numbers of an accepted floor keep, as these rules need it: "The floor file", refusals 6 and 7.
 -- Assumes nothing.
-use Prim.Native.Nat.{ℕ, _+_, _%_, _≤_, _<_, _^_, min, max}
+use Prim.Native.Nat.{ℕ, _+_, _*_, _%_, _≤_, _<_, _^_, min, max}
 use mathlib.Core.Bool.{Bool, cond}
 use mathlib.Core.Logic.{_⊎_}
 use mathlib.Core.Path.{_≡_}
@@ -70,7 +70,22 @@ pub record Middle (fy sn ln S : ℕ) : Type 0 where
   pub above : 8000 < S
   pub most : S ≤ 80000
 
+-- with a divisor of the table
+pub record Divided (divisor ln : ℕ) : Type 0 where
+  pub least : 28 ≤ divisor
+  pub most : divisor ≤ 36
+  pub longer : ln ≤ 11800
+
+-- a slab's thickness
+pub record Slab (t : ℕ) : Type 0 where
+  pub most : t ≤ 500
+
 -- a quotient that can be rounded up in 64 bits
 pub record Quotient (n d : ℕ) : Type 0 where
   pub positive : 0 < d
   pub room : n + d < 2 ^ 64
+
+-- a multiple of d that fits
+pub record Multiple (d t : ℕ) : Type 0 where
+  pub positive : 0 < d
+  pub room : t * d < 2 ^ 64

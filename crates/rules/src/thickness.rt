@@ -3,8 +3,9 @@ use numbers::larger;
 ghost use mathlib.Core.Path.{_≡_};
 ghost use Prim.Native.Nat.{_≤_, _<_, max};
 ghost use Rattle.numbers.specs.Rounding.{up};
-ghost use Rattle.rules.specs.Sizes.{Middle, Panel, Quotient};
-ghost use Rattle.rules.specs.LeastThickness.{gradeRow, panelColumn, divisor, stiff, middling, tabled, Thinnest};
+ghost use lib.Dec.{leb};
+ghost use Rattle.rules.specs.Sizes.{Divided, Middle, Multiple, Panel, Quotient, Slab};
+ghost use Rattle.rules.specs.LeastThickness.{gradeRow, panelColumn, divisor, stiff, middling, tabled, leastThickness, Asks, Thinnest};
 
 // Outer panel without edge beams, outer with, inner.
 pub enum Place {
@@ -44,43 +45,49 @@ pub fn divisor(fy: u64, place: Place) -> u64
     DIVISORS[row][column]
 }
 
-// The least number, m or more, whose multiple of `d` reaches `n`.
-fn reach(n: u64, d: u64, m: u64) -> u64
-    requires { ⌜ Quotient n d ⌝ }
-    ensures { λ r. ⌜ r ≡ max m (up n d) ⌝ }
-{
-    larger(m, (n + (d - 1)) / d)
+// What a rule asks of t: n ≤ t·d, and t is `least` or more.
+struct Rule {
+    n: u64,
+    d: u64,
+    least: u64,
 }
 
-fn stiff(fy: u64, sn: u64, ln: u64) -> u64
+fn stiff(fy: u64, sn: u64, ln: u64) -> Rule
     requires { ⌜ Panel fy sn ln ⌝ }
-    ensures { λ r. ⌜ r ≡ stiff fy sn ln ⌝ }
+    ensures { λ r. ⌜ Asks (stiff fy sn ln) r ⌝ }
 {
-    reach(ln * sn * (1120 + fy), 1400 * (36 * sn + 9 * ln), 90)
+    Rule {
+        n: ln * sn * (1120 + fy),
+        d: 1400 * (36 * sn + 9 * ln),
+        least: 90,
+    }
 }
 
-fn middling(fy: u64, sn: u64, ln: u64, s: u64) -> u64
+fn middling(fy: u64, sn: u64, ln: u64, s: u64) -> Rule
     requires { ⌜ Middle fy sn ln s ⌝ }
-    ensures { λ r. ⌜ r ≡ middling fy sn ln s ⌝ }
+    ensures { λ r. ⌜ Asks (middling fy sn ln s) r ⌝ }
 {
-    reach(
-        40000 * ln * sn * (1120 + fy),
-        1400 * (1440000 * sn + 5 * ln * (s - 8000)),
-        125,
-    )
+    Rule {
+        n: 40000 * ln * sn * (1120 + fy),
+        d: 1400 * (1440000 * sn + 5 * ln * (s - 8000)),
+        least: 125,
+    }
 }
 
-fn tabled(n: u64, ln: u64) -> u64
-    requires { ⌜ Quotient ln n ⌝ }
-    ensures { λ r. ⌜ r ≡ tabled n ln ⌝ }
+fn tabled(divisor: u64, ln: u64) -> Rule
+    requires { ⌜ Divided divisor ln ⌝ }
+    ensures { λ r. ⌜ Asks (tabled divisor ln) r ⌝ }
 {
-    reach(ln, n, 125)
+    Rule {
+        n: ln,
+        d: divisor,
+        least: 125,
+    }
 }
 
-// The least whole t in mm; s is S.
-pub fn least_thickness(everywhere: bool, place: Place, fy: u64, sn: u64, ln: u64, s: u64) -> u64
+fn rule_of(everywhere: bool, place: Place, fy: u64, sn: u64, ln: u64, s: u64) -> Rule
     requires { ⌜ Panel fy sn ln ⌝ }
-    ensures { λ r. ⌜ Thinnest everywhere place fy sn ln s r ⌝ }
+    ensures { λ r. ⌜ Asks (leastThickness everywhere place fy sn ln s) r ⌝ }
 {
     if everywhere {
         if 80000 < s {
@@ -91,4 +98,39 @@ pub fn least_thickness(everywhere: bool, place: Place, fy: u64, sn: u64, ln: u64
         }
     }
     tabled(divisor(fy, place), ln)
+}
+
+// The least number, m or more, whose multiple of `d` reaches `n`.
+fn reach(n: u64, d: u64, m: u64) -> u64
+    requires { ⌜ Quotient n d ⌝ }
+    ensures { λ r. ⌜ r ≡ max m (up n d) ⌝ }
+{
+    larger(m, (n + (d - 1)) / d)
+}
+
+// Whether t is that number or more, with no division.
+fn reaches(n: u64, d: u64, m: u64, t: u64) -> bool
+    requires { ⌜ Multiple d t ⌝ }
+    ensures { λ r. ⌜ r ≡ leb (max m (up n d)) t ⌝ }
+{
+    m <= t && n <= t * d
+}
+
+// The least whole t in mm; s is S.
+pub fn least_thickness(everywhere: bool, place: Place, fy: u64, sn: u64, ln: u64, s: u64) -> u64
+    requires { ⌜ Panel fy sn ln ⌝ }
+    ensures { λ r. ⌜ Thinnest everywhere place fy sn ln s r ⌝ }
+{
+    let rule = rule_of(everywhere, place, fy, sn, ln, s);
+    reach(rule.n, rule.d, rule.least)
+}
+
+// Whether a slab's t is enough, which is asked of every panel.
+pub fn enough(everywhere: bool, place: Place, fy: u64, sn: u64, ln: u64, s: u64, t: u64) -> bool
+    requires { ⌜ Panel fy sn ln ⌝ }
+    requires { ⌜ Slab t ⌝ }
+    ensures { λ r. ⌜ r ≡ leb (leastThickness everywhere place fy sn ln s) t ⌝ }
+{
+    let rule = rule_of(everywhere, place, fy, sn, ln, s);
+    reaches(rule.n, rule.d, rule.least, t)
 }

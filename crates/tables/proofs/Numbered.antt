@@ -10,12 +10,12 @@ use native.Mathlib.Omega.{arith}
 use borrow.Author.Tests.{lt-ltb, le-ltb}
 use Rattle.numbers.proofs.Bounded.{_⊕_, _⊗_, #}
 use Rattle.numbers.proofs.Records.{next-record}
-use Rattle.numbers.proofs.Tests.{by-test, says-lt, says-le}
+use Rattle.numbers.proofs.Tests.{by-test, says-lt}
 use Rattle.plan.specs.declared.ways.Way.{Way}
 use Rattle.plan.specs.declared.ways.Way.the-variants.{X, Y}
 use Rattle.plan.specs.Ways.{pick}
-use Rattle.plan.specs.Fields.{partAt}
-use Rattle.plan.specs.Plan.{few, bays, lastLine}
+use Rattle.plan.specs.Plan.{bays, lastLine}
+use Rattle.plan.proofs.Reading.{bays-most}
 use Rattle.tables.specs.Places.{Place, Inside, recordCount, firstOf, lineFirst, numberOf, placeOf}
 
 -- ---- one direction, whose lines have n spans
@@ -41,13 +41,6 @@ span-in : (n m k : ℕ) → k < (m + 1) * n → k % n < n
 span-in n m k h = mod-lt k (some-span n (m + 1) k h)
 
 -- ---- both
-
-few-most : (n : ℕ) → few n ≤ 12
-few-most n = by-test {x = n} {y = 0} (λ (m : ℕ). m ≤ 12) (says-le n 12) (λ h. h) (λ h. omega arith)
-
-pub bays-most : (f : List ℕ) (d : Way) → bays f d ≤ 12
-unfolding bays
-bays-most f d = few-most (pick d (partAt f 0 1) (partAt f 0 2))
 
 -- thirteen lines of twelve spans
 pub frames-most : {m n : ℕ} → m ≤ 12 → n ≤ 12 → (m + 1) * n ≤ 156

@@ -12,15 +12,11 @@ use Rattle.plan.specs.declared.ways.Way.the-variants.{X, Y}
 use Rattle.floor.specs.declared.layout.Layout.{Layout}
 use Rattle.floor.specs.Layouts.{layoutOf}
 use Rattle.lines.specs.Lines.{isEverywhere}
-use Rattle.verdict.specs.declared.places.Limit.the-variants.{Slender, Uneven, Astray, Unequal, Thin}
+use Rattle.verdict.specs.declared.places.Limit.the-variants.{Uneven, Astray, Thin}
 use Rattle.verdict.specs.Limits.{somePair, somePanel, few, slenderPanel, uneven, astray, heavy, unequalPanel, unbalanced, thinPanel, sumOf, verdict}
 use Rattle.verdict.specs.Places.{breaks, along, across, somewhere}
 
 module _ (f : List ℕ) where
-  slender-places : somewhere f Slender ≡ somePanel f (slenderPanel f)
-  unfolding somewhere along across breaks
-  slender-places = refl
-
   -- one row
   uneven-places : (d : Way) → somewhere f (Uneven d) ≡ uneven f d
   unfolding somewhere along across breaks somePair until uneven
@@ -30,25 +26,21 @@ module _ (f : List ℕ) where
   unfolding somewhere along across breaks astray
   astray-places d = refl
 
-  unequal-places : somewhere f Unequal ≡ somePanel f (unequalPanel f)
-  unfolding somewhere along across breaks
-  unequal-places = refl
-
   thin-places : somewhere f Thin ≡ somePanel f (thinPanel f)
   unfolding somewhere along across breaks
   thin-places = refl
 
-  pub summed : {a b c c₁ c₂ d d₁ d₂ e g h : Bool} {r : ℕ} → a ≡ few f → b ≡ somewhere f Slender → c₁ ≡ somewhere f (Uneven X) → c₂ ≡ somewhere f (Uneven Y)
+  pub summed : {a b c c₁ c₂ d d₁ d₂ e g h : Bool} {r : ℕ} → a ≡ few f → b ≡ somePanel f (slenderPanel f) → c₁ ≡ somewhere f (Uneven X) → c₂ ≡ somewhere f (Uneven Y)
       → c ≡ (c₁ || c₂) → d₁ ≡ somewhere f (Astray X) → d₂ ≡ somewhere f (Astray Y) → d ≡ (d₁ || d₂) → e ≡ heavy f → g ≡ unbalanced f → h ≡ somewhere f Thin
       → r ≡ sumOf a b c d e g h → r ≡ verdict f
   unfolding verdict
   summed pa pb pc₁ pc₂ pc pd₁ pd₂ pd pe pg ph pr =
-      cc (slender-places, uneven-places X, uneven-places Y, astray-places X, astray-places Y, thin-places)
+      cc (uneven-places X, uneven-places Y, astray-places X, astray-places Y, thin-places)
 
   module _ {layout : Layout} {everywhere : Bool} (laid : layout ≡ layoutOf f) (is : everywhere ≡ isEverywhere layout) where
-    pub beamed : {r : Bool} → everywhere ≡ true → r ≡ somewhere f Unequal → r ≡ unbalanced f
+    pub beamed : {r : Bool} → everywhere ≡ true → r ≡ somePanel f (unequalPanel f) → r ≡ unbalanced f
     unfolding unbalanced
-    beamed t e = rw (← laid, ← is, t) (e ∙ unequal-places)
+    beamed t e = rw (← laid, ← is, t) e
 
     pub beamless : everywhere ≡ false → everywhere ≡ unbalanced f
     unfolding unbalanced

@@ -1,20 +1,22 @@
 // What is broken in a floor (01, "The verdict"), and the least thickness of its panels.
+mod extremes;
 pub mod limits;
+mod panels;
 pub mod places;
 
 ghost use mathlib.Core.Path.{_≡_};
 ghost use Prim.Native.Nat.{_≤_};
 ghost use Rattle.lines.specs.Lines.{panelThickness};
 ghost use Rattle.lines.specs.Held.{Ready};
-ghost use Rattle.verdict.specs.Limits.{few, heavy, unbalanced, verdict};
+ghost use Rattle.verdict.specs.Limits.{few, heavy, verdict};
 ghost use Rattle.floor.specs.Fair.{Accepted};
 ghost use Rattle.verdict.specs.Held.{InPanel};
 ghost use Rattle.verdict.specs.Answers.{judged, hasPanel, panelOf};
-use floor::layout::Layout;
-use floor::layout::layout_of;
 use lines::line::alphas;
-use lines::panel::is_everywhere;
+use lines::line::spans;
+use lines::panel::Slab;
 use lines::panel::panel_thickness;
+use lines::panel::slab_of;
 use numbers::both;
 use numbers::either;
 use places::Limit;
@@ -33,32 +35,32 @@ fn heavy(f: &[u8]) -> bool
     limits::heavy(plan::dead(f), plan::live(f))
 }
 
-fn unbalanced(f: &[u8], layout: Layout, ax: &[u64; 13], ay: &[u64; 13]) -> bool
-    requires { ⌜ Ready (now f) layout (now ax) (now ay) ⌝ }
-    ensures { λ r. ⌜ r ≡ unbalanced (now (f .entry)) ⌝ }
-{
-    is_everywhere(layout) && somewhere(f, layout, ax, ay, Limit::Unequal)
-}
-
 // The sum of what is broken.
-fn broken(f: &[u8], layout: Layout, ax: &[u64; 13], ay: &[u64; 13]) -> u32
-    requires { ⌜ Ready (now f) layout (now ax) (now ay) ⌝ }
+fn broken(
+    f: &[u8],
+    slab: Slab,
+    sx: &[u64; 13],
+    sy: &[u64; 13],
+    ax: &[u64; 13],
+    ay: &[u64; 13],
+) -> u32
+    requires { ⌜ Ready (now f) slab (now sx) (now sy) (now ax) (now ay) ⌝ }
     ensures { λ r. ⌜ (r ≡ verdict (now (f .entry))) × (r ≤ 127) ⌝ }
 {
     limits::sum_of(
         few(f),
-        somewhere(f, layout, ax, ay, Limit::Slender),
+        panels::slender(f, slab, sx, sy, ax, ay),
         either(
-            somewhere(f, layout, ax, ay, Limit::Uneven(Way::X)),
-            somewhere(f, layout, ax, ay, Limit::Uneven(Way::Y)),
+            somewhere(f, slab, sx, sy, ax, ay, Limit::Uneven(Way::X)),
+            somewhere(f, slab, sx, sy, ax, ay, Limit::Uneven(Way::Y)),
         ),
         either(
-            somewhere(f, layout, ax, ay, Limit::Astray(Way::X)),
-            somewhere(f, layout, ax, ay, Limit::Astray(Way::Y)),
+            somewhere(f, slab, sx, sy, ax, ay, Limit::Astray(Way::X)),
+            somewhere(f, slab, sx, sy, ax, ay, Limit::Astray(Way::Y)),
         ),
         heavy(f),
-        unbalanced(f, layout, ax, ay),
-        somewhere(f, layout, ax, ay, Limit::Thin),
+        panels::unbalanced(f, slab, sx, sy, ax, ay),
+        somewhere(f, slab, sx, sy, ax, ay, Limit::Thin),
     )
 }
 
@@ -66,9 +68,11 @@ pub fn verdict(f: &[u8]) -> u32
     requires { ⌜ Accepted (now f) ⌝ }
     ensures { λ r. ⌜ (r ≡ verdict (now (f .entry))) × (r ≤ 127) ⌝ }
 {
+    let sx = spans(f, Way::X);
+    let sy = spans(f, Way::Y);
     let ax = alphas(f, Way::X);
     let ay = alphas(f, Way::Y);
-    broken(f, layout_of(f), &ax, &ay)
+    broken(f, slab_of(f), &sx, &sy, &ax, &ay)
 }
 
 // A refusal number, or 0 and what was asked; laid out as C has it, for the product's face.
@@ -108,9 +112,11 @@ fn least_of(f: &[u8], x: u64, y: u64) -> u32
     requires { ⌜ InPanel (now f) x y ⌝ }
     ensures { λ r. ⌜ r ≡ panelThickness (now (f .entry)) x y ⌝ }
 {
+    let sx = spans(f, Way::X);
+    let sy = spans(f, Way::Y);
     let ax = alphas(f, Way::X);
     let ay = alphas(f, Way::Y);
-    panel_thickness(f, layout_of(f), &ax, &ay, x as u32, y as u32) as u32
+    panel_thickness(f, slab_of(f), &sx, &sy, &ax, &ay, x as u32, y as u32) as u32
 }
 
 // The least thickness, in mm, of the panel of x bay x and y bay y.

@@ -23,9 +23,9 @@ broken-spec =
     (λ c κs. search needs)
     (λ c. (
       summed _ (c .before .before .before .before .before .before .before .before .before .before .before .few .ensures)
-          (c .before .before .before .before .before .before .before .before .before .before .somewhere .ensures)
-          (c .before .before .before .before .before .before .before .before .before .somewhere2 .ensures) (c .before .before .before .before .before .before .before .before .somewhere3 .ensures) (c .before .before .before .before .before .before .before .either .ensures)
-          (c .before .before .before .before .before .before .somewhere4 .ensures) (c .before .before .before .before .before .somewhere5 .ensures) (c .before .before .before .before .either2 .ensures)
-          (c .before .before .before .heavy .ensures) (c .before .before .unbalanced .ensures) (c .before .somewhere6 .ensures) (c .sum-of .ensures .0),
+          (c .before .before .before .before .before .before .before .before .before .before .slender .ensures)
+          (c .before .before .before .before .before .before .before .before .before .somewhere .ensures) (c .before .before .before .before .before .before .before .before .somewhere2 .ensures) (c .before .before .before .before .before .before .before .either .ensures)
+          (c .before .before .before .before .before .before .somewhere3 .ensures) (c .before .before .before .before .before .somewhere4 .ensures) (c .before .before .before .before .either2 .ensures)
+          (c .before .before .before .heavy .ensures) (c .before .before .unbalanced .ensures) (c .before .somewhere5 .ensures) (c .sum-of .ensures .0),
       c .sum-of .ensures .1,
     )))

@@ -13,8 +13,21 @@ least-of-spec =
     (λ c κs. search needs)
     (λ c κs. search needs)
     (λ c κs. search needs)
-    (λ c. fits (bays-few (c .before .before .before .before .before .before .pre) .0) tt)
-    (λ c. fits (bays-few (c .before .before .before .before .before .before .pre) .1) tt)
     (λ c κs. search needs)
+    (λ c κs. search needs)
+    (λ c. fits (bays-few (c .before .before .before .before .before .before .before .before .before .before .pre) .0) tt)
+    (λ c. fits (bays-few (c .before .before .before .before .before .before .before .before .before .before .pre) .1) tt)
+    (λ c κs. let p = c .before .before .before .before .before .before .before .before .before .before .pre in record {
+      ready = record {
+        accepted = p .accepted;
+        shared = c .before .before .before .before .slab-of .ensures;
+        x-spans = c .before .before .before .before .before .before .before .before .spans .ensures;
+        y-spans = c .before .before .before .before .before .before .before .spans2 .ensures;
+        along-x = c .before .before .before .before .before .before .alphas .ensures;
+        along-y = c .before .before .before .before .before .alphas2 .ensures;
+      };
+      x-bay = p .x-bay;
+      y-bay = p .y-bay;
+    })
     (λ c. search needs)
     (λ c. search needs))

@@ -1,4 +1,4 @@
--- Two bytes, the lower first.
+-- Two bytes, the lower first: with one test for both, and byte by byte at the end.
 -- Assumes nothing.
 use Rattle.plan.specs.Fields.{le16}
 use borrow.Author.Needs.{needs}
@@ -10,8 +10,14 @@ unfolding le16
 u16-at-spec =
     tie.close
     (tie.spec
+    (λ c. search needs)
+    (λ c. search needs)
+    (λ c. search needs)
+    (λ c. search needs)
+    (λ c κs. search needs)
     (λ c κs. search needs)
     (λ c. search needs)
     (λ c κs. search needs)
     (λ c κs. search needs)
+    (λ c. cc)
     (λ c. cc))

@@ -1,29 +1,15 @@
--- The rule that the tests pick gives the definition's number, of which the promise holds.
+-- The rule's number is the definition's, of which the promise holds.
 -- Assumes nothing.
-use mathlib.Core.Logic.{⊎-elim}
+use mathlib.Core.Path.{_∙_}
 use borrow.Author.Needs.{needs}
-use borrow.Author.Tests.{lt-ltb, le-ltb}
-use Rattle.rules.specs.LeastThickness.{leastThickness}
 use Rattle.rules.proofs.Thinnest.{thinnest}
 use Rattle.rules.proofs.thickness.least_thickness.Statement.{statement}
 use Rattle.rules.proofs.thickness.least_thickness.Tie as tie
 
 pub least-thickness-spec : {M : Type 1} → statement M
-unfolding leastThickness
 least-thickness-spec =
     tie.close
     (tie.spec
     (λ c κs. search needs)
-    (λ c. thinnest (c .before .before .before .pre)
-    (rw (c .before .before .if1 .taken, lt-ltb _ _ (c .before .if2 .taken)) (c .stiff .ensures)))
     (λ c κs. search needs)
-    (λ c. thinnest (c .before .before .before .before .pre)
-    (rw (c .before .before .before .if1 .taken, le-ltb _ _ (c .before .before .if2 .left), lt-ltb _ _ (c .before .if3 .taken)) (c .middling .ensures)))
-    (λ c κs. search needs)
-    (λ c κs. search needs)
-    (λ c. thinnest (c .before .before .before .pre)
-    (let e = rw (c .before .divisor .ensures .0) at (c .tabled .ensures) in
-    ⊎-elim
-    (λ w. rw (w .0 .taken, le-ltb _ _ (w .1 .left), le-ltb _ _ (w .2 .left)) e)
-    (λ w. rw (w .left) e)
-    (c .before .before .if1 .came))))
+    (λ c. thinnest (c .before .before .pre) (c .reach .ensures ∙ c .before .rule-of .ensures .is)))

@@ -1,5 +1,6 @@
 -- The parts of the quotient fit, each factor by the panel's range and S by its own.
 -- Assumes nothing.
+use mathlib.Core.Path.{refl}
 use native.Mathlib.Omega.{arith}
 use borrow.Author.Needs.{needs}
 use Rattle.numbers.proofs.Bounded.{_⊕_, _⊗_, _⊖_, #, fits}
@@ -23,8 +24,9 @@ middling-spec =
     (λ c. fits (# _ ⊗ c .pre .panel .most ⊗ (c .pre .most ⊖ _)) tt)
     (λ c. let p = c .pre .panel in fits (# _ ⊗ shorter-most p ⊕ # _ ⊗ p .most ⊗ (c .pre .most ⊖ _)) tt)
     (λ c. let p = c .pre .panel in fits (# _ ⊗ (# _ ⊗ shorter-most p ⊕ # _ ⊗ p .most ⊗ (c .pre .most ⊖ _))) tt)
-    (λ c κs. let p = c .pre .panel in record {
-      positive = search needs;
-      room = omega (arith, # 40000 ⊗ p .most ⊗ shorter-most p ⊗ (# 1120 ⊕ p .grade), # 5 ⊗ p .most ⊗ (c .pre .most ⊖ 8000));
-    })
-    (λ c. cc))
+    (λ c. let p = c .pre .panel in record {
+      is = refl;
+      positive = omega arith;
+      n-most = omega (arith, # 40000 ⊗ p .most ⊗ shorter-most p ⊗ (# 1120 ⊕ p .grade));
+      d-most = omega (arith, # 5 ⊗ p .most ⊗ (c .pre .most ⊖ 8000));
+    }))

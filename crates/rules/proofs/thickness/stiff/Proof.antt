@@ -1,5 +1,6 @@
 -- The parts of the quotient fit, each factor by the panel's range.
 -- Assumes nothing.
+use mathlib.Core.Path.{refl}
 use native.Mathlib.Omega.{arith}
 use borrow.Author.Needs.{needs}
 use Rattle.numbers.proofs.Bounded.{_⊕_, _⊗_, #, fits}
@@ -20,8 +21,9 @@ stiff-spec =
     (λ c. search needs)
     (λ c. search needs)
     (λ c. search needs)
-    (λ c κs. record {
-      positive = search needs;
-      room = omega (arith, c .pre .most ⊗ shorter-most (c .pre) ⊗ (# 1120 ⊕ c .pre .grade));
-    })
-    (λ c. cc))
+    (λ c. record {
+      is = refl;
+      positive = omega arith;
+      n-most = omega (arith, c .pre .most ⊗ shorter-most (c .pre) ⊗ (# 1120 ⊕ c .pre .grade));
+      d-most = omega arith;
+    }))

@@ -1,6 +1,7 @@
 -- The quotient itself.
 -- Assumes nothing.
-use borrow.Author.Needs.{needs}
+use mathlib.Core.Path.{refl}
+use native.Mathlib.Omega.{arith}
 use Rattle.rules.specs.LeastThickness.{tabled}
 use Rattle.rules.proofs.thickness.tabled.Statement.{statement}
 use Rattle.rules.proofs.thickness.tabled.Tie as tie
@@ -10,5 +11,4 @@ unfolding tabled
 tabled-spec =
     tie.close
     (tie.spec
-    (λ c κs. search needs)
-    (λ c. cc))
+    (λ c. record { is = refl; positive = omega arith; n-most = omega arith; d-most = omega arith }))

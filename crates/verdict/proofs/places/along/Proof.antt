@@ -1,30 +1,21 @@
--- Each callee's equation, in the arm of its limit; an accepted floor has a bay, so one less is no wrap.
+-- The places of each limit, from the bays at hand (AtPlace); an accepted floor has a bay, so one less is no wrap.
 -- Assumes nothing.
-use native.Mathlib.Omega.{arith}
 use borrow.Author.Needs.{needs}
 use Rattle.floor.proofs.Fair.{fair}
-use Rattle.verdict.specs.Places.{along}
+use Rattle.verdict.proofs.AtPlace.{bays-of, along-uneven, along-astray, along-thin}
 use Rattle.verdict.proofs.places.along.Statement.{statement}
 use Rattle.verdict.proofs.places.along.Tie as tie
 
 pub along-spec : {M : Type 1} → statement M
-unfolding along
 along-spec =
     tie.close
     (tie.spec
     (λ c. search needs)
     (λ c κs. search needs)
-    (λ c. search needs)
-    (λ c κs. search needs)
-    (λ c. rw (c .bays2 .ensures .0) (fair _ (c .before .before .before .before .before .pre .accepted) .bays-in _ .0))
-    (λ c. search needs)
-    (λ c κs. search needs)
+    (λ c. let p = c .before .before .before .before .before .pre in rw (c .pick .ensures, bays-of p _ .0) (fair _ (p .accepted) .bays-in _ .0))
     (λ c. search needs)
     (λ c κs. search needs)
     (λ c. search needs)
-    (λ c κs. search needs)
-    (λ c. ((cc), omega arith))
-    (λ c. ((cc), omega arith))
-    (λ c. ((cc), omega arith))
-    (λ c. ((cc), omega arith))
-    (λ c. ((cc), omega arith)))
+    (λ c. along-uneven (c .before .before .before .before .before .pre) (c .before .before .limit .given .1) (c .pick .ensures))
+    (λ c. along-astray (c .before .before .before .before .before .pre) (c .before .before .limit2 .given .1) (c .pick2 .ensures))
+    (λ c. along-thin (c .before .before .before .pre) (c .enum-told .given .1)))

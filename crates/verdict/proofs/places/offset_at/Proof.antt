@@ -1,6 +1,7 @@
 -- Each callee's equation in turn.
 -- Assumes nothing.
 use borrow.Author.Needs.{needs}
+use Rattle.verdict.proofs.AtPlace.{sized-of}
 use Rattle.verdict.proofs.places.offset_at.Statement.{statement}
 use Rattle.verdict.proofs.places.offset_at.Tie as tie
 
@@ -10,5 +11,5 @@ offset-at-spec =
     (tie.spec
     (λ c κs. search needs)
     (λ c κs. search needs)
-    (λ c κs. search needs)
+    (λ c κs. sized-of (c .before .before .before .pre))
     (λ c. cc))

@@ -7,14 +7,15 @@ use borrow.Author.Needs.{needs}
 use Rattle.numbers.specs.Tests.{some}
 use Rattle.numbers.proofs.Tests.{none, more, found, done}
 use Rattle.verdict.specs.Places.{breaks, someInRow}
+use Rattle.verdict.proofs.AtPlace.{shared-of}
 use Rattle.verdict.proofs.places.some_in_row.Statement.{statement}
 use Rattle.verdict.proofs.places.some_in_row.Tie as tie
 
 abbrev Inv-loop : tie.InvT-loop
-Inv-loop f layout ax ay limit m n k₀ k = (k ≤ n) × (some k (λ i. breaks f limit i m) ≡ false)
+Inv-loop f slab sx sy ax ay limit m n k₀ k = (k ≤ n) × (some k (λ i. breaks f limit i m) ≡ false)
 
 abbrev μ-loop : tie.MeasureT-loop
-μ-loop f layout ax ay limit m n k₀ k = n - k
+μ-loop f slab sx sy ax ay limit m n k₀ k = n - k
 
 pub some-in-row-spec : {M : Type 1} → statement M
 unfolding someInRow
@@ -23,7 +24,7 @@ some-in-row-spec =
     (tie.spec
     Inv-loop
     μ-loop
-    (λ c κs. record { accepted = c .before .pre .ready .accepted })
+    (λ c κs. shared-of (c .before .pre .ready))
     (λ c. (search needs, none true _))
     (λ c κs. search needs)
     (λ c. rw (← c .before .before .before .before .along .ensures .0) (sym (found true _ _ _ (c .before .before .loop-test .taken) (sym (c .before .breaks .ensures) ∙ c .if1 .taken))))

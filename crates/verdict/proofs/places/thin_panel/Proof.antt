@@ -1,16 +1,9 @@
--- Each callee's equation in turn.
+-- The slab is too thin for a panel where its thickness is not enough.
 -- Assumes nothing.
 use borrow.Author.Needs.{needs}
-use Rattle.verdict.specs.Limits.{thinPanel}
+use Rattle.verdict.proofs.AtPlace.{thin-is}
 use Rattle.verdict.proofs.places.thin_panel.Statement.{statement}
 use Rattle.verdict.proofs.places.thin_panel.Tie as tie
 
 pub thin-panel-spec : {M : Type 1} → statement M
-unfolding thinPanel
-thin-panel-spec =
-    tie.close
-    (tie.spec
-    (λ c κs. search needs)
-    (λ c. search needs)
-    (λ c κs. search needs)
-    (λ c. cc))
+thin-panel-spec = tie.close (tie.spec (λ c κs. search needs) (λ c. thin-is _ _ _ (c .thick-enough .ensures)))

@@ -2,8 +2,8 @@
 -- Assumes nothing.
 use mathlib.Core.Path.{refl}
 use Rattle.numbers.proofs.Bounded.{_⊗_, fits}
-use Rattle.verdict.proofs.places.share.Statement.{statement}
-use Rattle.verdict.proofs.places.share.Tie as tie
+use Rattle.verdict.proofs.panels.share.Statement.{statement}
+use Rattle.verdict.proofs.panels.share.Tie as tie
 
 pub share-spec : {M : Type 1} → statement M
 share-spec =
