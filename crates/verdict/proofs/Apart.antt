@@ -12,7 +12,7 @@ use mathlib.Core.Path.{_≡_, refl, sym, _∙_}
 use native.Mathlib.Omega.{arith}
 use lib.Dec.{ltb}
 use lib.ListN.{getD}
-use Rattle.numbers.specs.Extremes.{apart, mostOf, leastOf}
+use Rattle.numbers.specs.Extremes.{mostOf, leastOf}
 use Rattle.numbers.proofs.Bounded.{_⊗_}
 use Rattle.numbers.proofs.Extremes.{apart-ends, apart-extremes, least-within}
 use Rattle.numbers.proofs.Tests.{until-same}

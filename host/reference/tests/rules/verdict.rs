@@ -109,11 +109,8 @@ fn limit_8_looks_at_every_adjoining_span() {
     floor.y_spans = vec![4_000, 4_800, 5_400, 6_000];
     let along_x = [600, 500, 400, 400];
     let along_y = [400, 400, 480, 540, 600];
-    for j in 0..5 {
-        for i in 0..4 {
-            floor.offsets[j * 4 + i] = (along_x[i], along_y[j]);
-        }
-    }
+    let row = |y| along_x.map(|x| (x, y));
+    floor.offsets = along_y.into_iter().flat_map(row).collect();
     assert_verdict(&floor, 0);
     for column in 0..20 {
         let mut broken = floor.clone();

@@ -1,6 +1,5 @@
 -- Each product is bounded by the product of its bounds.
 -- Assumes nothing.
-use Prim.Native.Nat.{_*_, _≤_}
 use borrow.Author.Needs.{needs}
 use Rattle.numbers.proofs.Bounded.{_⊗_, #, fits}
 use Rattle.figures.proofs.limits.unlikeness.Statement.{statement}

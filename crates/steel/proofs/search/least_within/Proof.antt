@@ -1,6 +1,6 @@
 -- The loop keeps: no area within the limits below `area` carries the moment.
 -- Assumes nothing.
-use Prim.Native.Nat.{suc, _+_, _-_, _*_, _≤_, _<_}
+use Prim.Native.Nat.{suc, _-_, _*_, _≤_, _<_}
 use native.Mathlib.Nat.{le-trans, lt-of-le-of-lt, mul-pos}
 use native.Mathlib.Omega.{arith}
 use lib.Dec.{lit<}

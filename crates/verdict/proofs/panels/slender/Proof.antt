@@ -1,7 +1,6 @@
 -- The spans of the two directions, twice as long as one another (Apart).
 -- Assumes nothing.
 use native.Mathlib.Omega.{arith}
-use borrow.Author.Needs.{needs}
 use Rattle.plan.specs.declared.ways.Way.the-variants.{X, Y}
 use Rattle.verdict.proofs.AtPlace.{shared-of, bays-of}
 use Rattle.verdict.proofs.Apart.{listed, slender-is}
