@@ -54,6 +54,14 @@ module _ (f t : List ℕ) (slab : SlabView) (kind index : ℕ) (d : Way) (l : �
         ≡ writtenFrom recordWidth (namedAt f kind index) (recordAt f) (lineFirst f d l) (bays f d) t
     line-is = rw (q, e) (sym (line-written f kind index recordWidth (recordAt f) d l t (h .line) (h .floor .asked .there) some-span))
 
+    -- a line of which no span is named
+    pub line-left : spans .to ≤ spans .from → t ≡ writtenFrom recordWidth (namedAt f kind index) (recordAt f) (lineFirst f d l) (bays f d) t
+    line-left o =
+        let z : spans .to - spans .from ≡ 0 = omega arith in
+        sym (ap (λ (n : ℕ). writtenFrom recordWidth every (recordAt f) (lineFirst f d l + spans .from) n t) z
+        ∙ from-none recordWidth every (recordAt f) (lineFirst f d l + spans .from) t)
+        ∙ line-is
+
 -- ---- the lines of a direction
 
 module _ (f t : List ℕ) (slab : SlabView) (kind index : ℕ) (d : Way) (h : Slabbed f t slab kind index) where

@@ -56,12 +56,15 @@ fn write_spans(f: &[u8], table: &mut [u32], slab: SlabView, d: Way, l: u32, span
     }
 }
 
+// A line of which no span is named is not even read.
 fn write_line(f: &[u8], table: &mut [u32], slab: SlabView, kind: u32, index: u32, d: Way, l: u32)
     requires { ⌜ AtLine (now f) (now table) slab kind index d l ⌝ }
     ensures { λ _. ⌜ now (table .exit) ≡ writtenFrom recordWidth (namedAt (now (f .entry)) kind index) (recordAt (now (f .entry))) (lineFirst (now (f .entry)) d l) (bays (now (f .entry)) d) (now (table .entry)) ⌝ }
 {
     let spans = named_spans(kind, index, d, l, plan::bays(f, d));
-    write_spans(f, table, slab, d, l, spans);
+    if spans.from < spans.to {
+        write_spans(f, table, slab, d, l, spans);
+    }
 }
 
 fn write_lines(f: &[u8], table: &mut [u32], slab: SlabView, kind: u32, index: u32, d: Way)
