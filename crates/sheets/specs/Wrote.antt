@@ -17,3 +17,7 @@ pub record Room (table : List ℕ) (from width count : ℕ) (out : List ℕ) (at
   pub some : 1 ≤ width
   pub held : from + count * width ≤ length table
   pub room : at + 11 * (count * width) ≤ length out
+
+-- room for a line of two numbers
+pub record Line (out : List ℕ) : Type 0 where
+  pub room : 22 ≤ length out

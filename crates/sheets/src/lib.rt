@@ -1,10 +1,9 @@
 // Lines of decimal numbers as text, in a lent buffer. Each function writes at a place and answers the place after its text.
-ghost use mathlib.Core.Path.{_≡_};
 ghost use mathlib.Core.List.{[], _∷_};
 ghost use Prim.Native.Nat.{_+_, _*_, _≤_, _<_};
 ghost use lib.ListN.{length, take, drop};
 ghost use Rattle.sheets.specs.Text.{decimal, further, line, lines};
-ghost use Rattle.sheets.specs.Wrote.{Wrote, Room};
+ghost use Rattle.sheets.specs.Wrote.{Wrote, Room, Line};
 
 const SPACE: u8 = b' ';
 
@@ -20,7 +19,7 @@ fn mark(out: &mut [u8], at: usize, b: u8) -> usize
 }
 
 // n's decimal digits.
-pub fn number(out: &mut [u8], at: usize, n: u32) -> usize
+fn number(out: &mut [u8], at: usize, n: u32) -> usize
     requires { ⌜ at + 10 ≤ length (now out) ⌝ }
     ensures { λ r. ⌜ Wrote (now (out .entry)) at (decimal n) (now (out .exit)) r × (r ≤ at + 10) ⌝ }
 {
@@ -46,7 +45,7 @@ fn further(table: &[u32], from: usize, n: usize, out: &mut [u8], at: usize) -> u
 }
 
 // The n numbers of the table from `from` on, as a line.
-pub fn row(table: &[u32], from: usize, n: usize, out: &mut [u8], at: usize) -> usize
+fn row(table: &[u32], from: usize, n: usize, out: &mut [u8], at: usize) -> usize
     requires { ⌜ Room (now table) from n 1 (now out) at ⌝ }
     ensures { λ r. ⌜ Wrote (now (out .entry)) at (line (take n (drop from (now (table .entry))))) (now (out .exit)) r × (r ≤ at + 11 * n) ⌝ }
 {
@@ -73,7 +72,7 @@ pub fn rows(table: &[u32], width: usize, count: usize, out: &mut [u8], at: usize
 
 // Two numbers as a line, at the start of out.
 pub fn pair(a: u32, b: u32, out: &mut [u8]) -> usize
-    requires { ⌜ 22 ≤ length (now out) ⌝ }
+    requires { ⌜ Line (now out) ⌝ }
     ensures { λ r. ⌜ Wrote (now (out .entry)) 0 (line (a ∷ b ∷ [])) (now (out .exit)) r × (r ≤ 22) ⌝ }
 {
     let two = [a, b];

@@ -1,6 +1,6 @@
 -- What span s of line l along d reads from the floor: the numbers that its record is worked out from, and no others.
 -- Assumes nothing.
-use Prim.Native.Nat.{ℕ, _+_}
+use Prim.Native.Nat.{ℕ, _+_, _<_}
 use mathlib.Core.Bool.{true, false, cond}
 use mathlib.Core.List.{List}
 use lib.Dec.{eqb}
@@ -55,6 +55,10 @@ lowEnd f d s = cond (eqb s 0) (outerEnd f d Low) innerEnd
 
 unfoldable pub highEnd : List ℕ → Way → ℕ → EndView
 highEnd f d s = cond (eqb (s + 1) (bays f d)) (outerEnd f d High) innerEnd
+
+-- a span's number in its line
+pub record Numbered (s : ℕ) : Type 0 where
+  pub few : s < 12
 
 unfoldable pub viewOf : List ℕ → Way → ℕ → ℕ → View
 viewOf f d l s =

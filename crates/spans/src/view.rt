@@ -3,7 +3,7 @@ ghost use mathlib.Core.Path.{_≡_};
 ghost use Prim.Native.Nat.{_<_};
 ghost use Rattle.plan.specs.Plan.{span};
 ghost use Rattle.lines.specs.Lines.{below};
-ghost use Rattle.spans.specs.Views.{slabView, lineView, endLine, outerEnd, innerEnd, lowEnd, highEnd};
+ghost use Rattle.spans.specs.Views.{slabView, lineView, endLine, outerEnd, innerEnd, lowEnd, highEnd, Numbered};
 use floor::layout::Layout;
 use floor::layout::layout_of;
 use floor::layout::outer_line;
@@ -130,7 +130,7 @@ fn high_end(f: &[u8], d: Way, s: u32) -> EndView
 
 // Span s of a line whose view is at hand, since all spans of a line share it.
 pub fn span_view(f: &[u8], d: Way, slab: SlabView, line: LineView, s: u32) -> View
-    requires { ⌜ s < 12 ⌝ }
+    requires { ⌜ Numbered s ⌝ }
     ensures { λ r. ⌜ r ≡ record { slab = slab; line = line; l1 = span (now (f .entry)) d s; low = lowEnd (now (f .entry)) d s; high = highEnd (now (f .entry)) d s } ⌝ }
 {
     View {

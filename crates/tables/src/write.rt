@@ -1,7 +1,6 @@
 // Records of the table, written one by one; numbers past them stay.
 ghost use mathlib.Core.Path.{_≡_};
-ghost use Prim.Native.Nat.{_+_, _*_, _≤_};
-ghost use lib.ListN.{length};
+ghost use Prim.Native.Nat.{_+_};
 ghost use Rattle.numbers.specs.Records.{put};
 ghost use Rattle.tables.specs.Width.{recordWidth};
 ghost use Rattle.tables.specs.Blank.{Room, blanked};
@@ -10,7 +9,7 @@ ghost use Rattle.tables.specs.Blank.{Room, blanked};
 pub const WIDTH: usize = 16;
 
 pub fn write_record(table: &mut [u32], k: usize, values: [u32; WIDTH])
-    requires { ⌜ k * recordWidth + recordWidth ≤ length (now table) ⌝ }
+    requires { ⌜ Room (k + 1) (now table) ⌝ }
     ensures { λ _. ⌜ now (table .exit) ≡ put recordWidth k values (now (table .entry)) ⌝ }
 {
     let base = k * WIDTH;

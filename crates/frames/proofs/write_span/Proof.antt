@@ -10,7 +10,7 @@ pub write-span-spec : {M : Type 1} → statement M
 write-span-spec =
     tie.close
     (tie.spec
-    (λ c κs. span-few _ _ _ _ _ _ _ _ (c .before .before .pre))
+    (λ c κs. record { few = span-few _ _ _ _ _ _ _ _ (c .before .before .pre) })
     (λ c κs. rw (c .before .span-view .ensures) (record-worked _ _ _ _ _ _ _ _ (c .before .before .before .before .pre)))
     (λ c κs. search needs)
     (λ c. search needs)
