@@ -1,7 +1,7 @@
--- A floor is accepted (refusal 0) exactly when it passes every test: a chain that answers 0 passed its first test and goes on answering 0.
---     passes, accepts     all of 1 to 7
---     values-pass         5 to 7, which a change tries on the changed floor
---     at-record           a check of every record, at one of them
+-- A floor that is accepted (refusal 0) passes every test: a chain that answers 0 passed its first test and goes on answering 0.
+--     passes          all of 1 to 7
+--     values-pass     5 to 7, which a change tries on the changed floor
+--     at-record       a check of every record, at one of them
 -- Assumes nothing.
 use Prim.Native.Nat.{ℕ, suc, _+_, _<_}
 use mathlib.Core.Bool.{Bool, true, false}
@@ -41,10 +41,6 @@ passes f e =
     let h₄ = unless-zero _ 3 _ (h₃ .1) in
     let v = values-pass f (h₄ .1) in
     record { length = h₁ .0; first = h₂ .0; count = h₃ .0; listed = h₄ .0; ranged = v .0; columns = v .1; beams = v .2 }
-
-pub accepts : (f : List ℕ) → Passes f → refusal f ≡ 0
-unfolding refusal valuesRefusal unless
-accepts f p = rw (p .length, p .first, p .count, p .listed, p .ranged, p .columns, p .beams)
 
 module _ (f : List ℕ) (check : Check) where
   pub at-record : everyRecord f check ≡ true → (k i : ℕ) → i < many f k → recordOk f check k i (start f k + i) ≡ true

@@ -1,6 +1,6 @@
 -- The most and the least of n values: each bounds every value and is one of them, so they tell whether any two values are far apart.
 --     most-more, least-more          one turn more of a loop
---     most-within, least-within      a bound of the values bounds them
+--     least-within                   a bound of the values bounds it
 --     apart-extremes, apart-ends     far apart, of values by their extremes, of two numbers by the larger and the smaller
 -- Assumes nothing.
 use Prim.Native.Nat.{ℕ, zero, suc, _+_, _*_, _≤_, _<_, min, max}
@@ -70,12 +70,7 @@ least-reached (suc (suc n)) v pos =
       | no h ↦ (suc n, omega arith, omega arith)
     ]
 
--- ---- bounds
-
-pub most-within : (n M : ℕ) (v : ℕ → ℕ) → All n (λ k. v k ≤ M) → mostOf n v ≤ M
-unfolding mostOf
-most-within zero M v h = omega arith
-most-within (suc n) M v h = omega (arith, most-within n M v (λ k l. h k (omega arith)), h n (omega arith))
+-- ---- a bound
 
 pub least-within : (n M : ℕ) (v : ℕ → ℕ) → 0 < n → All n (λ k. v k ≤ M) → leastOf n v ≤ M
 least-within n M v pos h = le-trans (least-bounds n v 0 pos) (h 0 pos)

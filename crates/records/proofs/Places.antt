@@ -70,7 +70,3 @@ module _ (nx ny : ℕ) where
 
   pub total-most : Few nx ny → total nx ny ≤ 223
   total-most few = rw total-is (omega (arith, corners-most few))
-
-  pub start-most : Few nx ny → (k : ℕ) → k ≤ 9 → startOf nx ny k ≤ 54
-  unfolding startOf countOf
-  start-most few k h = ⊎-elim (λ q. rw q (omega arith)) (λ l. omega (arith, start-past k 9 l)) (eq-or-lt-of-le h)

@@ -5,7 +5,7 @@ use Prim.Native.Nat.{ℕ, _+_, _-_, _≤_, _<_}
 use mathlib.Core.Bool.{Bool, _||_}
 use mathlib.Core.List.{List}
 use mathlib.Core.Logic.{_⊎_}
-use mathlib.Core.Path.{_≡_, refl, ap}
+use mathlib.Core.Path.{_≡_, ap}
 use native.Mathlib.Omega.{arith}
 use lib.Dec.{eqb}
 use borrow.Author.Tests.{eq-eqb, ne-eqb}
@@ -18,7 +18,7 @@ use Rattle.plan.specs.Plan.{bays, lastLine, many}
 use Rattle.plan.proofs.Directions.{span-count}
 use Rattle.tables.specs.declared.named.Spans.{Spans}
 use Rattle.tables.specs.Places.{Place, Inside, recordCount, lineFirst, placeOf}
-use Rattle.tables.specs.Named.{allSpans, wholeIf, namedSpans, within, named, namedAt}
+use Rattle.tables.specs.Named.{wholeIf, namedSpans, within, named, namedAt}
 use Rattle.tables.specs.Meaning.{Names}
 use Rattle.tables.specs.Meaning.Names.{loads, own-span, beside, own-line, first-span, last-span}
 use Rattle.tables.proofs.Naming.{at-loads, at-own-span, at-span-across, at-own-line, at-line-across, by-naming, by-spans}
@@ -41,9 +41,6 @@ of-whole {P = P} n s q = by-test (λ (r : Spans). Of r s → P) q (λ p h. p) (�
 -- and of a named line every span is
 whole-of : {b : Bool} {P : Type 0} (n s : ℕ) → Says b P → P → s < n → Of (wholeIf b n) s
 whole-of n s q p h = rw (q .passes p) (omega arith, h)
-
-pub named-all : (index : ℕ) (d : Way) (l n : ℕ) → namedSpans 3 index d l n ≡ allSpans n
-named-all index d l n = at-loads 3 index l n d refl
 
 module _ (f : List ℕ) (kind index : ℕ) where
   module _ {p : Place} (h : Inside f p) where
