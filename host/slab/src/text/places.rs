@@ -2,7 +2,13 @@
 
 use super::faults::Fault;
 use super::lines::{Lines, Way};
-use super::read::Pair;
+
+/// Two numbers that a line of the text gives to a place of the floor.
+pub struct Pair<P> {
+    pub line: usize,
+    pub place: P,
+    pub pair: [u32; 2],
+}
 
 /// The places of one sort: their pairs, and the line of the text that gave each.
 struct Places {

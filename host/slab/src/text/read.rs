@@ -4,15 +4,8 @@ use super::faults::Fault;
 use super::forms::{Form, FORMS};
 use super::line::{said, Said};
 use super::lines::Lines;
-use super::places;
+use super::places::{self, Pair};
 use crate::file::{Floor, MOST_COLUMNS};
-
-/// Two numbers that a line of the text gives to a place of the floor.
-pub struct Pair<P> {
-    pub line: usize,
-    pub place: P,
-    pub pair: [u32; 2],
-}
 
 /// What the lines of a text say, put together.
 #[derive(Default)]
