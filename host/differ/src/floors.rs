@@ -13,10 +13,11 @@ use crate::panels;
 use crate::same::{hex, same_answer};
 use crate::tally::{Counts, Opened, Tally};
 use reference::draw::Draw;
-use reference::floor_file::{records_of_kind, refusal, sizes, Sizes, SUCCESS};
+use reference::floor_file::{records_of_kind, sizes, Sizes};
 use reference::floors::LAYOUTS;
 use reference::layout::layout;
 use reference::opening::open;
+use reference::refusals::{refusal, SUCCESS};
 use reference::runs::tables::any_numbers;
 use reference::table::length;
 

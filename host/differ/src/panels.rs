@@ -4,8 +4,9 @@ use crate::case::Case;
 use crate::lent::Lent;
 use crate::same::same_answer;
 use reference::draw::Draw;
-use reference::floor_file::{refusal, sizes, Sizes, SUCCESS};
+use reference::floor_file::{sizes, Sizes};
 use reference::panel::{panel, panels};
+use reference::refusals::{refusal, SUCCESS};
 
 /// Every panel of the floor, and bays that it lacks: the next one, ones that a reader of too few bits would
 /// take for the first, the last number.

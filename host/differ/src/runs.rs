@@ -9,7 +9,7 @@ use crate::same::hex;
 use held::Held;
 use reference::builder::Floor;
 use reference::draw::Draw;
-use reference::floor_file::SUCCESS;
+use reference::refusals::SUCCESS;
 use reference::runs::Run;
 use reference::verdict::{judge, REFUSED};
 use walk::Walk;

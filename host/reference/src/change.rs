@@ -1,8 +1,7 @@
 //! A change of one record of a held floor.
 
-use crate::floor_file::{
-    order, refusal, refusal_5_to_7, sizes, unlisted_fields_are_zero, Record, RECORD_BYTES, SUCCESS,
-};
+use crate::floor_file::{order, sizes, unlisted_fields_are_zero, Record, RECORD_BYTES};
+use crate::refusals::{refusal, refusal_5_to_7, SUCCESS};
 
 /// Where in the floor the record stands that a change replaces; `None` if the floor has none such.
 fn position(floor: &[u8], change: Record) -> Option<usize> {

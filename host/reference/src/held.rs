@@ -1,9 +1,10 @@
 //! A change of a held floor and of the table lent with it.
 
 use crate::change::judge;
-use crate::floor_file::{sizes, Record, SUCCESS};
+use crate::floor_file::{sizes, Record};
 use crate::named::named;
 use crate::opening::{fill, table_is_too_short};
+use crate::refusals::SUCCESS;
 use crate::table::{numbers, place};
 use crate::verdict::{verdict, REFUSED};
 

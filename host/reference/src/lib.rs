@@ -20,6 +20,7 @@ pub mod named;
 pub mod opening;
 pub mod panel;
 pub mod queries;
+pub mod refusals;
 pub mod runs;
 pub mod sheet;
 pub mod span;

@@ -1,6 +1,7 @@
 //! Opening a floor with a lent table.
 
-use crate::floor_file::{refusal, sizes, SUCCESS};
+use crate::floor_file::sizes;
+use crate::refusals::{refusal, SUCCESS};
 use crate::table::{length, numbers};
 use crate::verdict::{verdict, REFUSED};
 

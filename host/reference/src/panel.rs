@@ -2,8 +2,9 @@
 //!
 //! All but the query speak of a floor that is not refused.
 
-use crate::floor_file::{records_of_kind, refusal, sizes, Sizes, SUCCESS};
+use crate::floor_file::{records_of_kind, sizes, Sizes};
 use crate::layout::{layout, x_lines, y_lines, Line};
+use crate::refusals::{refusal, SUCCESS};
 use crate::stiffness::{alpha, frame_width, Adjoining};
 use crate::thickness::{self, clear_span, Panel};
 

@@ -1,6 +1,6 @@
 //! "The printing program"
 
-use crate::floor_file::SUCCESS;
+use crate::refusals::SUCCESS;
 use crate::span::NUMBERS;
 use crate::table::numbers;
 use crate::verdict::judge;

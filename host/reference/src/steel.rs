@@ -1,6 +1,7 @@
 //! "Slab steel" and, of "Refusal numbers, in the order tried", 11 and 12.
 
-use crate::floor_file::{materials_are_in_range, SUCCESS};
+use crate::floor_file::materials_are_in_range;
+use crate::refusals::SUCCESS;
 
 /// A strip of slab: its moment in N·cm, its width, thickness and depth in mm, its materials in MPa.
 #[derive(Clone, Copy, Debug, PartialEq, Eq, PartialOrd, Ord)]

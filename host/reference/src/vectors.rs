@@ -7,10 +7,9 @@
 
 use crate::cases::Case;
 use crate::change::change;
-use crate::floor_file::{
-    records_of_kind, refusal, sides, sizes, Record, Sides, Sizes, RECORD_BYTES, SUCCESS,
-};
+use crate::floor_file::{records_of_kind, sides, sizes, Record, Sides, Sizes, RECORD_BYTES};
 use crate::layout::{layout, Layout};
+use crate::refusals::{refusal, SUCCESS};
 
 pub const NO_CHANGE: u32 = u32::MAX;
 

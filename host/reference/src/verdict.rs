@@ -3,9 +3,10 @@
 //! Each limit answers whether it is broken and, as the verdict itself, speaks of a floor that is not
 //! refused.
 
-use crate::floor_file::{records_of_kind, refusal, sizes, Sizes, SUCCESS};
+use crate::floor_file::{records_of_kind, sizes, Sizes};
 use crate::layout::{layout, Layout};
 use crate::panel::{least_thickness, panels, x_line_alphas, x_spans, y_line_alphas, y_spans};
+use crate::refusals::{refusal, SUCCESS};
 
 /// "A refused opening or change gives verdict 255, which no floor earns"
 pub const REFUSED: u128 = 255;

@@ -6,7 +6,8 @@ use crate::panels;
 use crate::same::same_answer;
 use crate::tally::{Step, Tally};
 use gandhrumil::Answer;
-use reference::floor_file::{Record, SUCCESS};
+use reference::floor_file::Record;
+use reference::refusals::SUCCESS;
 use reference::verdict::judge;
 use reference::{held, opening};
 

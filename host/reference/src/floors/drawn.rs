@@ -2,9 +2,9 @@
 
 use crate::builder::{Floor, NO_BEAM};
 use crate::draw::Draw;
-use crate::floor_file::SUCCESS;
 use crate::layout::Layout;
 use crate::panel::{least_thickness, panels};
+use crate::refusals::SUCCESS;
 use crate::verdict::judge;
 
 #[derive(Clone, Copy, Debug)]

@@ -6,7 +6,8 @@ pub mod taken;
 use crate::builder::{last_index, record, value, Field};
 use crate::change;
 use crate::draw::Draw;
-use crate::floor_file::{Record, SUCCESS};
+use crate::floor_file::Record;
+use crate::refusals::SUCCESS;
 use crate::verdict::judge;
 
 /// "kind 3 or 5..9"

@@ -7,8 +7,8 @@ use super::tables::{any_numbers, table, Held};
 use super::Run;
 use crate::builder::Floor;
 use crate::draw::Draw;
-use crate::floor_file::refusal;
 use crate::floors::{self, Described, LAYOUTS};
+use crate::refusals::refusal;
 
 pub fn runs() -> Vec<Run> {
     [short_tables(), refused_floors()].concat()

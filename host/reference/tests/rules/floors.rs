@@ -3,7 +3,8 @@
 use crate::hand_made::{self, edited, ONE_BAY, TWO_BY_ONE};
 use crate::{assert_refusals, case};
 use reference::cases::Case;
-use reference::floor_file::{order, refusal, Sizes};
+use reference::floor_file::{order, Sizes};
+use reference::refusals::refusal;
 use reference::vectors::line;
 
 fn line_of_floor(floor: Vec<u8>) -> String {

@@ -2,8 +2,8 @@
 
 use crate::{assert_refusals, case};
 use reference::builder::Floor;
-use reference::floor_file::refusal;
 use reference::layout::{layout, Layout};
+use reference::refusals::refusal;
 use reference::vectors::line;
 
 #[test]

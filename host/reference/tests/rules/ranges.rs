@@ -2,7 +2,7 @@
 
 use crate::assert_refusals;
 use crate::hand_made::{edited, THIN};
-use reference::floor_file::refusal;
+use reference::refusals::refusal;
 
 #[test]
 fn refusal_5() {

@@ -1,6 +1,6 @@
 //! The runs: their form, and that they are written the same each time.
 
-use reference::floor_file::refusal;
+use reference::refusals::refusal;
 use reference::runs::{self, kept, play, stdin, stdout, Run};
 use reference::table::numbers;
 use std::collections::BTreeSet;

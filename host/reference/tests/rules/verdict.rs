@@ -3,7 +3,7 @@
 use crate::hand_made::{self, ONE_BAY, THIN, TWO_BY_ONE};
 use reference::builder::{Floor, NO_BEAM};
 use reference::cases;
-use reference::floor_file::refusal;
+use reference::refusals::refusal;
 use reference::verdict::{judge, too_unlike};
 
 /// No limit tells x from y, so each holds both ways round.

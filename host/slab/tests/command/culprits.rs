@@ -2,7 +2,8 @@
 
 use crate::run::slab_on;
 use reference::builder::{with, Field, Floor};
-use reference::floor_file::{records, refusal, values_are_in_range};
+use reference::floor_file::{records, values_are_in_range};
+use reference::refusals::refusal;
 use reference::{cases, floors};
 
 fn looked_at(file: &[u8]) -> Vec<String> {

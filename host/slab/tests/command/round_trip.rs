@@ -1,7 +1,7 @@
 //! From file to text and back, byte for byte, and from text to file and back.
 
 use reference::draw::Draw;
-use reference::floor_file::refusal;
+use reference::refusals::refusal;
 use reference::{cases, floors};
 use slab::file::Floor;
 use slab::text::{read, write};

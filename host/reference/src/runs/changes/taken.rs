@@ -4,8 +4,9 @@ use super::{any_index, held, verdict_with, KINDS, TRIES};
 use crate::builder::{record, value, Field, NO_BEAM};
 use crate::change::change;
 use crate::draw::Draw;
-use crate::floor_file::{sizes, SUCCESS};
+use crate::floor_file::sizes;
 use crate::panel::{x_spans, y_spans};
+use crate::refusals::SUCCESS;
 use crate::verdict::judge;
 
 /// A change near what is held after which the verdict is what it was, both once `mending` is in the
