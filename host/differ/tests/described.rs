@@ -5,6 +5,8 @@ use differ::job::Job;
 use differ::tally::Tally;
 use differ::{floors, runs, steel};
 use reference::draw::Draw;
+use reference::runs::tables::any_numbers;
+use reference::runs::Run;
 
 /// Compares each with a description.
 fn compare_all<T>(
@@ -37,6 +39,30 @@ fn floors_and_inputs_longer_than_any_floor() {
         |case, floor| floors::undamaged(case, "described", &floor.bytes),
     );
     assert_eq!(tally.floors(), described.len() as u64);
+}
+
+/// Each floor file is opened, with room enough for any table, then changed where a change comes with it.
+#[test]
+fn cases_of_every_refusal() {
+    let described = reference::cases::all();
+    let tally = compare_all(
+        &described,
+        |listed| &listed.description,
+        |case, listed| {
+            let table = any_numbers(&mut case.draw, 5_000);
+            let run = Run {
+                description: String::new(),
+                opens: true,
+                floor: listed.floor.clone(),
+                table,
+                changes: listed.change.iter().cloned().collect(),
+            };
+            runs::replay(case, &run)
+        },
+    );
+    let changes = described.iter().filter(|listed| listed.change.is_some());
+    assert_eq!(tally.changes.total(), changes.count() as u64);
+    assert!(tally.panels.total() > described.len() as u64);
 }
 
 #[test]

@@ -1,4 +1,5 @@
-//! The cases of the vectors. What has to be printed for them is worked out, never written here.
+//! Floor files and changes at the edges of every refusal. What has to be answered is worked out, never
+//! written here.
 
 mod change_refusals;
 mod change_values;
@@ -10,6 +11,8 @@ mod order;
 mod values;
 
 use crate::builder::Field;
+use crate::change::change;
+use crate::refusals::refusal;
 
 pub struct Case {
     pub description: String,
@@ -32,6 +35,14 @@ impl Case {
             description: format!("change: {}", description.into()),
             floor: floor.to_vec(),
             change: Some(change),
+        }
+    }
+
+    /// Of the floor alone, or of the change; no table is lent.
+    pub fn refusal(&self) -> u128 {
+        match &self.change {
+            None => refusal(&self.floor),
+            Some(bytes) => change(&self.floor, bytes).0,
         }
     }
 }

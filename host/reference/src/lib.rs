@@ -29,5 +29,4 @@ pub mod stiffness;
 pub mod strips;
 pub mod table;
 pub mod thickness;
-pub mod vectors;
 pub mod verdict;

@@ -2,49 +2,31 @@ use reference::garage::garage;
 use reference::sheet::{line, sheet};
 use reference::steel::{answer, Query};
 use reference::verdict::judged;
-use reference::{cases, figures, queries, runs, vectors};
+use reference::{cases, figures};
 use std::io::{Read, Write};
 use std::path::Path;
 use std::process::ExitCode;
 use std::{env, fs, io};
 
 const USAGE: &str = "usage:
-  reference vectors DIR   write the vectors to DIR/stdin and DIR/stdout
-  reference list          print number, expected line and description of each case
+  reference list          print number, refusal and description of each floor file and each change
+                          that is described one by one
   reference judge         read a floor from standard input; print its refusal and verdict and, where
                           it is not refused, a line per y bay of its panels' least thicknesses
   reference sheet         read a floor from standard input; print what the printing program has to
-  reference runs DIR      write a few short runs of changes to DIR/stdin and DIR/stdout
   reference garage        write the bytes of the example floor to standard output
-  reference queries DIR   write a few steel queries to DIR/stdin and DIR/stdout
   reference figures DIR   write the floors of the figures that are run to DIR/stdin, and every
                           figure's line to DIR/stdout
   reference steel M B T D FC FY
                           print refusal and area of a steel query";
 
-fn write_vectors(folder: &Path) -> io::Result<()> {
-    let cases = cases::all();
-    fs::create_dir_all(folder)?;
-    fs::write(folder.join("stdin"), vectors::stdin(&cases))?;
-    fs::write(folder.join("stdout"), vectors::stdout(&cases))
-}
-
 fn print_list() -> io::Result<()> {
-    io::stdout().write_all(vectors::list(&cases::all()).as_bytes())
-}
-
-fn write_runs(folder: &Path) -> io::Result<()> {
-    let runs = runs::kept::runs();
-    fs::create_dir_all(folder)?;
-    fs::write(folder.join("stdin"), runs::stdin(&runs))?;
-    fs::write(folder.join("stdout"), runs::stdout(&runs))
-}
-
-fn write_queries(folder: &Path) -> io::Result<()> {
-    let queries = queries::kept::queries();
-    fs::create_dir_all(folder)?;
-    fs::write(folder.join("stdin"), queries::stdin(&queries))?;
-    fs::write(folder.join("stdout"), queries::stdout(&queries))
+    let mut stdout = io::stdout().lock();
+    for (number, case) in (1..).zip(cases::all()) {
+        let (refusal, description) = (case.refusal(), case.description);
+        writeln!(stdout, "{number}\t{refusal}\t{description}")?;
+    }
+    Ok(())
 }
 
 fn write_figures(folder: &Path) -> io::Result<()> {
@@ -78,13 +60,10 @@ fn main() -> ExitCode {
     let arguments: Vec<String> = env::args().skip(1).collect();
     let words: Vec<&str> = arguments.iter().map(String::as_str).collect();
     let done = match words[..] {
-        ["vectors", folder] => write_vectors(Path::new(folder)),
         ["list"] => print_list(),
         ["judge"] => print_of_floor(judged),
         ["sheet"] => print_of_floor(sheet),
-        ["runs", folder] => write_runs(Path::new(folder)),
         ["garage"] => write_garage(),
-        ["queries", folder] => write_queries(Path::new(folder)),
         ["figures", folder] => write_figures(Path::new(folder)),
         ["steel", m, b, t, d, fc, fy] => print_steel([m, b, t, d, fc, fy]),
         _ => {

@@ -4,7 +4,7 @@ use super::Described;
 use crate::steel::Query;
 use std::collections::BTreeSet;
 
-pub const NAMES: [&str; 6] = ["M", "b", "t", "d", "fc", "fy"];
+const NAMES: [&str; 6] = ["M", "b", "t", "d", "fc", "fy"];
 
 pub fn queries() -> Vec<Described> {
     [
@@ -18,7 +18,7 @@ pub fn queries() -> Vec<Described> {
 }
 
 /// What else a query is while values of it are tried.
-pub fn strips() -> [Query; 3] {
+fn strips() -> [Query; 3] {
     [
         [2_195_000, 1_000, 150, 124, 30, 420],
         [30_000_000, 3_000, 220, 0, 40, 520],
@@ -27,7 +27,7 @@ pub fn strips() -> [Query; 3] {
     .map(Query::of)
 }
 
-pub fn with(query: Query, place: usize, number: u128) -> Query {
+fn with(query: Query, place: usize, number: u128) -> Query {
     let mut numbers = query.numbers();
     numbers[place] = number;
     Query::of(numbers)
@@ -46,7 +46,7 @@ fn ends(query: Query, place: usize) -> [u128; 2] {
 }
 
 /// At each end of the range and one past it.
-pub fn ends_and_past(query: Query, place: usize) -> BTreeSet<u128> {
+fn ends_and_past(query: Query, place: usize) -> BTreeSet<u128> {
     let [least, most] = ends(query, place);
     BTreeSet::from([least.saturating_sub(1), least, most, most + 1])
 }

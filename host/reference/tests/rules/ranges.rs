@@ -1,64 +1,7 @@
 //! Refusal 5, "some value is out of range, or one beam size alone is 0", and the ranges of record 0.
 
-use crate::assert_refusals;
 use crate::hand_made::{edited, THIN};
 use reference::refusals::refusal;
-
-#[test]
-fn refusal_5() {
-    assert_refusals(&[
-        ("fc 19", 5),
-        ("fc 20", 0),
-        ("fc 60", 0),
-        ("fc 61", 5),
-        ("fy 279", 5),
-        ("fy 280", 0),
-        ("fy 300", 5),
-        ("fy 420", 0),
-        ("fy 520", 0),
-        ("fy 521", 5),
-        ("dead 999", 5),
-        ("dead 1000", 0),
-        ("dead 30000", 0),
-        ("dead 30001", 5),
-        ("live 0", 0),
-        ("live 50000", 0),
-        ("live 50001", 5),
-        ("cx 190", 5),
-        ("cx 200", 0),
-        ("cx 205", 5),
-        ("cy 1500", 0),
-        ("cy 1510", 5),
-        ("sides 2", 0),
-        ("sides 3", 5),
-        ("sides 12", 5),
-        ("sides 48", 5),
-        ("sides 85", 0),
-        ("sides 170", 0),
-        ("sides 171", 5),
-        ("sides 192", 5),
-        ("sides 256", 5),
-        ("x span 980", 5),
-        ("x span 1000", 0),
-        ("x span 1010", 5),
-        ("y span 12000", 0),
-        ("y span 12020", 5),
-        ("x line beam width 0", 5),
-        ("x line beam depth 0", 5),
-        ("x line beam width 149", 5),
-        ("x line beam depth 90", 5),
-        ("x line beam depth 91", 0),
-        ("y line beam width 150", 0),
-        ("y line beam depth 1500", 0),
-        ("y line beam depth 1501", 5),
-        ("offset along x 12000", 0),
-        ("offset along y 12001", 5),
-        ("x span 69536", 5),
-        ("sides 16777216", 5),
-        ("offset along x 12040 in the last, 11", 5),
-        ("12x12 last offset 12001 along y", 5),
-    ]);
-}
 
 /// The least and the greatest value below `end` that is in range at this place of the floor, and how
 /// many there are.

@@ -1,9 +1,8 @@
 //! The table: 01's figures where they stand in it, its order, what holds of every record.
 
-use crate::described::clear_floors;
 use crate::hand_made::{self, ONE_BAY};
 use reference::builder::Floor;
-use reference::floor_file::{records_of_kind, sides, sizes, Sizes};
+use reference::floor_file::{sizes, Sizes};
 use reference::panel::x_line_alphas;
 use reference::table::{length, numbers, place, x_record, y_record};
 use reference::verdict::judge;
@@ -177,62 +176,6 @@ fn order_and_length() {
     }
     assert_eq!(records, Vec::from_iter(0..31));
     assert_eq!(place(30), 480..496);
-}
-
-/// "Column strip = total·part/10000 down; middle = the rest. Beam = column·g/10000 down, g = 85·A/100
-/// down; slab = the rest."
-#[test]
-fn sections_add_up() {
-    for floor in clear_floors() {
-        for record in numbers(&floor.bytes).chunks(16) {
-            for section in record[1..].chunks(5) {
-                let [total, column, middle, beam, slab] = section.try_into().unwrap();
-                assert_eq!(column + middle, total, "{}", floor.description);
-                assert_eq!(beam + slab, column, "{}", floor.description);
-            }
-        }
-    }
-}
-
-/// "Negatives plus twice the positive make 200·Mo, but 201·Mo in an unrestrained end span."
-#[test]
-fn negatives_plus_twice_the_positive() {
-    for floor in clear_floors() {
-        let sizes = sizes(&floor.bytes);
-        let Sizes { nx, ny, .. } = sizes;
-        let sides = sides(records_of_kind(&floor.bytes, 4)[0].c);
-        let x_percent = |span| percent(span, nx, sides.west, sides.east);
-        let y_percent = |span| percent(span, ny, sides.south, sides.north);
-        let table = numbers(&floor.bytes);
-        let sum = |record: u128| sum(&table[place(record)]);
-        for line in 0..=ny {
-            for span in 0..nx {
-                let (mo, sum) = sum(x_record(sizes, line, span));
-                assert_eq!(sum, x_percent(span) * mo, "{}", floor.description);
-            }
-        }
-        for line in 0..=nx {
-            for span in 0..ny {
-                let (mo, sum) = sum(y_record(sizes, line, span));
-                assert_eq!(sum, y_percent(span) * mo, "{}", floor.description);
-            }
-        }
-    }
-}
-
-fn percent(span: u128, spans: u128, low_side: u128, high_side: u128) -> u64 {
-    let unrestrained = span == 0 && low_side == 1 || span + 1 == spans && high_side == 1;
-    if unrestrained {
-        201
-    } else {
-        200
-    }
-}
-
-/// Mo, and both negatives with twice the positive.
-fn sum(numbers: &[u32]) -> (u64, u64) {
-    let [mo, low, between, high] = [0, 1, 6, 11].map(|at| u64::from(numbers[at]));
-    (mo, low + 2 * between + high)
 }
 
 /// A floor that tells its lines, spans and sides apart.

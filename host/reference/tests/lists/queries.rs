@@ -1,67 +1,17 @@
-//! The steel queries: their form, and that they are written the same each time.
+//! The steel queries: that every sort is there, and that those at an edge are.
 
 use reference::queries::equal::{moment_is_whole, MINIMA, STRAINS};
 use reference::queries::strength::{greatest_area, greatest_moment, least_area};
-use reference::queries::{self, kept, stdin, stdout, Described};
+use reference::queries::{self, Described};
 use reference::steel::{answer, depth, k, Query};
 use std::collections::BTreeSet;
-use std::fs;
-use std::path::PathBuf;
-use std::process::{Command, Output};
-
-/// Reads standard input as its description says, with no help from the code that writes it.
-fn queries_in(stdin: &[u8]) -> Vec<[u128; 6]> {
-    let bytes = |eight: &[u8]| u64::from_le_bytes(eight.try_into().unwrap());
-    let numbers: Vec<u128> = stdin.chunks(8).map(|eight| bytes(eight).into()).collect();
-    let six = numbers.chunks(6);
-    six.map(|six| six.try_into().unwrap()).collect()
-}
-
-fn assert_holds(stdin: &[u8], queries: &[Described]) {
-    let read = queries_in(stdin);
-    assert_eq!(read.len(), queries.len());
-    for (given, read) in queries.iter().zip(read) {
-        let Query { m, b, t, d, fc, fy } = given.query;
-        assert_eq!([m, b, t, d, fc, fy], read, "{}", given.description);
-    }
-}
-
-#[test]
-fn standard_input_holds_the_queries() {
-    let queries = queries::all();
-    assert_holds(&stdin(&queries), &queries);
-}
-
-/// 2,195,000 is 0x217e38, 1,000 is 0x3e8 and 420 is 0x1a4.
-#[test]
-fn bytes_of_a_query() {
-    let bytes = stdin(&kept::figures()[..1]);
-    let eight = |low: [u8; 3]| [&low[..], &[0; 5]].concat();
-    let expected = [
-        [0x38, 0x7e, 0x21],
-        [0xe8, 0x03, 0],
-        [150, 0, 0],
-        [124, 0, 0],
-        [30, 0, 0],
-        [0xa4, 0x01, 0],
-    ];
-    assert_eq!(bytes, expected.map(eight).concat());
-}
-
-#[test]
-fn standard_output_has_a_line_per_query() {
-    assert_eq!(stdout(&[]), "");
-    let expected = "0 484\n0 270\n12 0\n0 484\n12 0\n";
-    assert_eq!(stdout(&kept::figures()), expected);
-}
 
 #[test]
 fn no_two_queries_share_a_description() {
-    for queries in [queries::all(), kept::queries()] {
-        let descriptions = queries.iter().map(|given| &given.description[..]);
-        let descriptions: BTreeSet<&str> = descriptions.collect();
-        assert_eq!(descriptions.len(), queries.len());
-    }
+    let queries = queries::all();
+    let descriptions = queries.iter().map(|given| &given.description[..]);
+    let descriptions: BTreeSet<&str> = descriptions.collect();
+    assert_eq!(descriptions.len(), queries.len());
 }
 
 #[test]
@@ -71,6 +21,18 @@ fn there_are_different_queries_enough() {
     let queries = all.iter().map(|given| given.query);
     let different: BTreeSet<Query> = queries.collect();
     assert!(different.len() >= 2_500, "{}", different.len());
+}
+
+#[test]
+fn there_are_queries_enough_of_every_sort() {
+    let refusals = queries::all().into_iter();
+    let refusals = refusals.map(|given| answer(given.query).0);
+    let refusals: Vec<u128> = refusals.collect();
+    for (refusal, least) in [(0, 300), (11, 300), (12, 100)] {
+        let given = refusals.iter().filter(|&&given| given == refusal).count();
+        assert!(given >= least, "refusal {refusal} by {given} queries");
+    }
+    assert!(refusals.iter().all(|refusal| [0, 11, 12].contains(refusal)));
 }
 
 /// Each value is its least, its most, 0, one past either end and all 64 bits in some query.
@@ -150,45 +112,4 @@ fn steps_are_by_one() {
         assert_eq!(refused, 0);
         assert!(pair[1] == (0, area + 1) || pair[1] == (12, 0), "{pair:?}");
     }
-}
-
-fn command(words: &[&str]) -> Output {
-    let mut command = Command::new(env!("CARGO_BIN_EXE_reference"));
-    command.args(words).output().unwrap()
-}
-
-fn written_by_the_command(name: &str) -> (Vec<u8>, Vec<u8>) {
-    let folder = PathBuf::from(env!("CARGO_TARGET_TMPDIR")).join(name);
-    let output = command(&["queries", folder.to_str().unwrap()]);
-    assert!(output.status.success());
-    let written = |file| fs::read(folder.join(file)).unwrap();
-    (written("stdin"), written("stdout"))
-}
-
-/// Few enough to be kept, with every refusal among them.
-#[test]
-fn the_command_writes_a_few_queries() {
-    let first = written_by_the_command("first_queries");
-    assert_eq!(first, written_by_the_command("second_queries"));
-    let queries = kept::queries();
-    assert!((50..=80).contains(&queries.len()));
-    assert_eq!(first.1, stdout(&queries).into_bytes());
-    assert_holds(&first.0, &queries);
-    let refusals = queries.iter().map(|given| answer(given.query).0);
-    assert_eq!(BTreeSet::from_iter(refusals), BTreeSet::from([0, 11, 12]));
-}
-
-#[test]
-fn the_command_answers_a_query() {
-    for (words, line) in [
-        ("2195000 1000 150 124 30 420", "0 484\n"),
-        ("20000000 1000 150 0 30 420", "12 0\n"),
-        ("0 0 0 0 0 18446744073709551615", "11 0\n"),
-    ] {
-        let words: Vec<&str> = ["steel"].into_iter().chain(words.split(' ')).collect();
-        assert_eq!(command(&words).stdout, line.as_bytes());
-    }
-    let wide = "18446744073709551616";
-    let refused = command(&["steel", wide, "1", "150", "0", "30", "420"]);
-    assert!(!refused.status.success() && refused.stdout.is_empty());
 }

@@ -1,9 +1,7 @@
 //! The figures that are run: the program's lines, this implementation's own, and the rows of
 //! docs/FIGURES.md.
 
-mod program;
-
-use program::{first_difference, printed};
+use crate::program::{first_difference, printed};
 use reference::figures::{stdin, stdout};
 use std::collections::BTreeMap;
 use std::fs;

@@ -1,8 +1,6 @@
 //! The printing program, held against the sheet of every described floor.
 
-mod program;
-
-use program::{first_difference, printed};
+use crate::program::{first_difference, printed};
 use reference::floors::{self, Described};
 use reference::sheet::sheet;
 use reference::verdict::judge;
