@@ -82,8 +82,8 @@ fn every_query() {
 fn any_floor(draw: &mut Draw) -> Vec<u8> {
     let (layout, _) = draw.one_of(&LAYOUTS);
     let wanted = Wanted {
-        nx: draw.between(1, 6) as usize,
-        ny: draw.between(1, 6) as usize,
+        nx: draw.between(1, 6),
+        ny: draw.between(1, 6),
         layout,
         sides: (0..4).fold(0, |sum, _| 4 * sum + draw.between(0, 2)),
     };
@@ -95,7 +95,7 @@ fn altered_records(draw: &mut Draw, floor: &[u8]) -> Vec<Vec<u8>> {
     let mut changes = Vec::new();
     for record in floor.chunks(RECORD_BYTES) {
         let mut change = record.to_vec();
-        change[draw.between(0, 15) as usize] ^= draw.one_of(&[0, 1, 2, 4, 20]);
+        change[draw.between(0, 15)] ^= draw.one_of(&[0, 1, 2, 4, 20]);
         if draw.percent(20) {
             changes.push(change);
         }
@@ -110,7 +110,7 @@ fn floors_drawn_and_altered() {
     for number in 0..3_000 {
         let mut floor = any_floor(&mut draw);
         let changes = altered_records(&mut draw, &floor);
-        let place = draw.between(0, floor.len() as u128 - 1) as usize;
+        let place = draw.between(0, floor.len() - 1);
         floor[place] ^= draw.one_of(&[0, 0, 0, 1, 4, 20]);
         hold_run(&Run {
             changes,

@@ -8,7 +8,7 @@ pub use queries::steel;
 
 use crate::product::{Answer, Query};
 use crate::size::Size;
-use reference::builder::Floor;
+use floor::Floor;
 
 pub enum Work {
     Open,

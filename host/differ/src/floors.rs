@@ -42,7 +42,7 @@ pub fn case(case: &mut Case) -> Result<(), String> {
 /// Any numbers: mostly as many as the floor asks for and a tail of some more, now and then too few.
 pub fn lent_table(draw: &mut Draw, floor: &[u8]) -> Vec<u32> {
     let asked = match refusal(floor) {
-        SUCCESS => length(sizes(floor)) as u128,
+        SUCCESS => length(sizes(floor)),
         _ => draw.between(0, 600),
     };
     let less = |numbers| asked.saturating_sub(numbers);

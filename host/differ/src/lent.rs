@@ -18,7 +18,7 @@ impl Room {
     /// How many numbers lie before the buffer and after it.
     fn margins(self, draw: &mut Draw) -> (usize, usize) {
         // More than a record of the table, and than a record of the floor, on either side.
-        let mut guard = || draw.between(17, 48) as usize;
+        let mut guard = || draw.between(17, 48);
         match self {
             Room::Guarded => (guard(), guard()),
             Room::Exact if guard() % 2 == 0 => (0, 0),

@@ -82,7 +82,7 @@ fn changes(tally: &Tally) -> String {
         Step::Refused(number) => *number,
         _ => 0,
     });
-    let wrong = |(_, right): &(u128, bool)| u128::from(!right);
+    let wrong = |(_, right): &(u16, bool)| u128::from(!right);
     let kept_on_wrong = self::refused(&tally.kept_clear, wrong).total();
     format!(
         "changes: {}\n  taken: {} from clear to clear ({} of them on wrong tables), {} into a broken verdict, {} out of one, {} between two\n  \

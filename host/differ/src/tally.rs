@@ -82,7 +82,7 @@ pub struct Tally {
     pub panels: Counts<u128>,
     pub changes: Counts<Step>,
     /// Of those that kept a clear floor clear: their kind, and whether the table was right before.
-    pub kept_clear: Counts<(u128, bool)>,
+    pub kept_clear: Counts<(u16, bool)>,
     /// All changes, by whether the table was right before.
     pub on_right_table: Counts<bool>,
     /// Steel queries, by their refusal or 0.

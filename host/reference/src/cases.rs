@@ -10,9 +10,9 @@ mod mixed;
 mod order;
 mod values;
 
-use crate::builder::Field;
 use crate::change::change;
 use crate::refusals::refusal;
+use floor::Field;
 
 pub struct Case {
     pub description: String,
@@ -63,7 +63,7 @@ pub fn all() -> Vec<Case> {
     .collect()
 }
 
-const KINDS: [(u128, &str); 9] = [
+const KINDS: [(u16, &str); 9] = [
     (1, "sizes"),
     (2, "materials"),
     (3, "loads"),
@@ -76,7 +76,7 @@ const KINDS: [(u128, &str); 9] = [
 ];
 
 /// The fields the table of kinds lists, by kind.
-pub const LISTED: [(u128, Field, &str); 18] = [
+pub const LISTED: [(u16, Field, &str); 18] = [
     (1, Field::A, "nx"),
     (1, Field::B, "ny"),
     (1, Field::C, "t"),
@@ -98,7 +98,7 @@ pub const LISTED: [(u128, Field, &str); 18] = [
 ];
 
 /// The fields it does not list.
-const UNLISTED: [(u128, Field, &str); 9] = [
+const UNLISTED: [(u16, Field, &str); 9] = [
     (2, Field::C, "materials c"),
     (3, Field::C, "loads c"),
     (5, Field::B, "x span b"),
@@ -111,10 +111,10 @@ const UNLISTED: [(u128, Field, &str); 9] = [
 ];
 
 /// Bits that a reader of too few bytes, or of signed numbers, would miss.
-const STRAY_VALUES: [u128; 3] = [1, 1 << 24, 1 << 31];
+const STRAY_VALUES: [u32; 3] = [1, 1 << 24, 1 << 31];
 
 /// At and one past both ends of a listed field's range, and inside it what the range leaves out.
-pub fn tried_values(kind: u128, field: Field) -> &'static [u128] {
+pub fn tried_values(kind: u16, field: Field) -> &'static [u32] {
     match (kind, field) {
         (1, Field::C) => &[0, 89, 90, 500, 501],
         (1, _) => &[0, 1, 2, 12, 13],

@@ -1,5 +1,12 @@
 //! Numbers drawn from a fixed sequence: the same floors and the same changes each time.
 
+use std::fmt::Debug;
+
+/// Any type of whole numbers.
+pub trait Whole: TryInto<u128, Error: Debug> + TryFrom<u128, Error: Debug> {}
+
+impl<N: TryInto<u128, Error: Debug> + TryFrom<u128, Error: Debug>> Whole for N {}
+
 /// The generator splitmix64.
 #[derive(Clone, Debug)]
 pub struct Draw(u64);
@@ -18,17 +25,20 @@ impl Draw {
     }
 
     /// Both ends included.
-    pub fn between(&mut self, low: u128, high: u128) -> u128 {
+    pub fn between<N: Whole>(&mut self, low: N, high: N) -> N {
+        let wide = |number: N| number.try_into().expect("a number that is not below 0");
+        let (low, high): (u128, u128) = (wide(low), wide(high));
         assert!(low <= high, "{low} to {high}");
-        low + u128::from(self.bits()) % (high - low + 1)
+        let drawn = low + u128::from(self.bits()) % (high - low + 1);
+        drawn.try_into().expect("no more than the highest")
     }
 
     pub fn one_of<T: Copy>(&mut self, choices: &[T]) -> T {
-        choices[self.between(0, choices.len() as u128 - 1) as usize]
+        choices[self.between(0, choices.len() - 1)]
     }
 
     /// True so many times of a hundred.
-    pub fn percent(&mut self, percent: u128) -> bool {
+    pub fn percent(&mut self, percent: u32) -> bool {
         self.between(1, 100) <= percent
     }
 

@@ -8,10 +8,10 @@ pub mod refused;
 pub mod small;
 mod spoilt;
 
-use crate::builder::Floor;
 use crate::draw::Draw;
 use crate::layout::Layout;
 use drawn::Wanted;
+use floor::Floor;
 
 pub struct Described {
     pub description: String,
@@ -52,7 +52,7 @@ pub fn all() -> Vec<Described> {
 }
 
 /// "each 0 columns, 1 unrestrained, 2 fully restrained": every choice for the four sides.
-fn sums_of_sides() -> Vec<u128> {
+fn sums_of_sides() -> Vec<u32> {
     let mut sums = Vec::new();
     for north in 0..=2 {
         for south in 0..=2 {
@@ -72,8 +72,8 @@ fn clear_by_sides() -> Vec<Described> {
     let mut floors = Vec::new();
     for (number, sides) in sums_of_sides().into_iter().enumerate() {
         let (layout, words) = LAYOUTS[number % 3];
-        let nx = draw.between(3, 7) as usize;
-        let ny = draw.between(3, 7) as usize;
+        let nx = draw.between(3, 7);
+        let ny = draw.between(3, 7);
         let wanted = Wanted {
             nx,
             ny,

@@ -1,6 +1,6 @@
 //! The floor that is kept as an example: a bus garage of 5 by 4 bays with beams on every line.
 
-use crate::builder::Floor;
+use floor::Floor;
 
 /// Wider bays where the buses turn, deeper beams on the outer lines, and two columns moved for a door.
 pub fn garage() -> Floor {
@@ -29,7 +29,7 @@ pub fn garage() -> Floor {
 }
 
 /// Of 6 by 5 columns: the one on y line 2 and x line 0, the one on y line 3 and x line 1.
-fn offsets() -> Vec<(u128, u128)> {
+fn offsets() -> Vec<(u32, u32)> {
     let mut offsets = vec![(0, 0); 30];
     offsets[2] = (250, 0);
     offsets[9] = (150, 200);

@@ -4,7 +4,6 @@
 //! and every number is a `u128`, or an `i128` where it may fall below 0, far wider than any value of
 //! 01, so no rule needs a word on overflow.
 
-pub mod builder;
 pub mod cases;
 pub mod change;
 pub mod draw;

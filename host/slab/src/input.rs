@@ -1,6 +1,6 @@
 //! Bytes from a file or from standard input, of any length, with no more of them kept than something can be made of.
 
-use crate::file::RECORD_BYTES;
+use floor::RECORD_BYTES;
 use std::ffi::OsStr;
 use std::fs::File;
 use std::io::{self, Read};

@@ -1,6 +1,6 @@
 //! What the proved library says of a floor.
 
-use crate::file::Floor;
+use floor::Floor;
 
 /// Sixteen numbers for each of the (ny+1)nx + (nx+1)ny spans of 12 by 12 bays, so that refusal 8 never arises.
 const LARGEST_TABLE: usize = 16 * 2 * 13 * 12;

@@ -4,7 +4,6 @@
 //! same numbers, in range or not.
 
 pub mod commands;
-pub mod file;
 pub mod given;
 pub mod input;
 pub mod judge;

@@ -10,8 +10,8 @@ pub mod sides;
 mod words;
 pub mod write;
 
-use crate::file::Floor;
 use crate::input::Input;
+use floor::Floor;
 
 /// What `slab help make` says.
 pub const GUIDE: &str = "\

@@ -4,8 +4,8 @@ use super::{overloaded, Operation, Work};
 use crate::floors::with_beams;
 use crate::product::Answer;
 use crate::size::Size;
-use reference::builder::{record, Floor};
-use reference::floor_file::{sizes, Record, RECORD_BYTES};
+use floor::{record, Floor, Record, RECORD_BYTES};
+use reference::floor_file::sizes;
 use reference::named::named;
 
 /// Where the record stands that a change replaces, and its bytes.
@@ -24,7 +24,7 @@ fn turns(name: &'static str, floor: &Floor, change: Vec<u8>) -> Operation {
     let (_, held) = held(&floor, &change);
     Operation {
         name,
-        writes: named(kind, index, sizes(&floor)).len(),
+        writes: named(kind.into(), index.into(), sizes(&floor)).len(),
         work: Work::Turns([change, held]),
         answer: (0, 0),
         floor,
@@ -33,7 +33,7 @@ fn turns(name: &'static str, floor: &Floor, change: Vec<u8>) -> Operation {
 
 /// From clear to clear: of each kind a record in the middle, and beams on an outer line.
 pub fn clear(size: Size) -> Vec<Operation> {
-    let middle = size.0 as u128 / 2;
+    let middle = size.0 as u16 / 2;
     let beam = |kind, line| record(kind, line, [320, 650, 0]);
     let changes = [
         ("change 3, loads", record(3, 0, [6_000, 2_500, 0])),

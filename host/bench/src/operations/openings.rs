@@ -4,7 +4,7 @@ use super::{overloaded, Operation, Work};
 use crate::floors::{with_beams, without_beams};
 use crate::product::Answer;
 use crate::size::Size;
-use reference::builder::Floor;
+use floor::Floor;
 
 fn open(name: &'static str, floor: &Floor, answer: Answer, writes: usize) -> Operation {
     Operation {

@@ -4,7 +4,7 @@ use super::{Operation, Work};
 use crate::floors::{with_beams, without_beams};
 use crate::product::{Answer, Query};
 use crate::size::Size;
-use reference::builder::Floor;
+use floor::Floor;
 
 /// The panel at the same bay each way.
 fn panel(name: &'static str, floor: &Floor, bay: usize) -> Operation {

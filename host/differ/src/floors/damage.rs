@@ -1,11 +1,9 @@
 //! What befalls a floor's bytes.
 
-use reference::builder::{last_index, value, with, Field};
+use floor::{last_index, value, with, Field, Floor, RECORD_BYTES};
 use reference::cases::{tried_values, LISTED};
 use reference::draw::Draw;
-use reference::floor_file::{sizes, RECORD_BYTES};
 use reference::floors::long::garbage;
-use reference::panel::{x_spans, y_spans};
 use reference::runs::changes::any_index;
 
 type Damage = fn(&mut Draw, &[u8]) -> Vec<u8>;
@@ -33,26 +31,25 @@ pub fn damaged(draw: &mut Draw, floor: &[u8]) -> (&'static str, Vec<u8>) {
 fn flipped(draw: &mut Draw, floor: &[u8]) -> Vec<u8> {
     let mut bytes = floor.to_vec();
     for _ in 0..draw.between(1, 3) {
-        let place = draw.between(0, bytes.len() as u128 - 1) as usize;
-        bytes[place] ^= draw.between(1, 255) as u8;
+        let place = draw.between(0, bytes.len() - 1);
+        bytes[place] ^= draw.between(1, 255);
     }
     bytes
 }
 
 fn cut_short(draw: &mut Draw, floor: &[u8]) -> Vec<u8> {
-    let length = draw.between(0, floor.len() as u128 - 1) as usize;
+    let length = draw.between(0, floor.len() - 1);
     floor[..length].to_vec()
 }
 
 fn cut_by_records(draw: &mut Draw, floor: &[u8]) -> Vec<u8> {
-    let records = (floor.len() / RECORD_BYTES) as u128;
-    let kept = draw.between(0, records - 1) as usize;
+    let kept = draw.between(0, floor.len() / RECORD_BYTES - 1);
     floor[..RECORD_BYTES * kept].to_vec()
 }
 
 /// By any bytes, or by records that stand in it already.
 fn made_longer(draw: &mut Draw, floor: &[u8]) -> Vec<u8> {
-    let more = draw.between(1, 40) as usize;
+    let more = draw.between(1, 40);
     let tail = match draw.percent(50) {
         true => garbage(draw, more),
         false => floor[floor.len() - RECORD_BYTES..].repeat(more),
@@ -61,8 +58,7 @@ fn made_longer(draw: &mut Draw, floor: &[u8]) -> Vec<u8> {
 }
 
 fn any_place(draw: &mut Draw, floor: &[u8]) -> usize {
-    let records = (floor.len() / RECORD_BYTES) as u128;
-    RECORD_BYTES * draw.between(0, records - 1) as usize
+    RECORD_BYTES * draw.between(0, floor.len() / RECORD_BYTES - 1)
 }
 
 /// Records that differ in kind or index, as two of a floor always do; often neighbours.
@@ -94,8 +90,9 @@ fn overwritten(draw: &mut Draw, floor: &[u8]) -> Vec<u8> {
 
 /// 6: "2cx exceeds an x span, or 2cy a y span": by 10 or 20, or not yet.
 fn wide_columns(draw: &mut Draw, floor: &[u8]) -> Vec<u8> {
-    let choices = [(Field::A, x_spans(floor)), (Field::B, y_spans(floor))];
-    let (field, spans) = &choices[draw.between(0, 1) as usize];
+    let floor_of = Floor::of(floor).expect("a good floor");
+    let choices = [(Field::A, floor_of.x_spans), (Field::B, floor_of.y_spans)];
+    let (field, spans) = &choices[draw.between(0, 1)];
     let shortest = spans.iter().min().expect("a bay");
     let half = shortest / 20 * 10;
     let column = draw.one_of(&[half, half + 10]).min(1_500);
@@ -106,7 +103,7 @@ fn wide_columns(draw: &mut Draw, floor: &[u8]) -> Vec<u8> {
 fn beam_put_or_taken(draw: &mut Draw, floor: &[u8]) -> Vec<u8> {
     let kind = draw.one_of(&[7, 8]);
     let index = draw.between(0, last_index(floor, kind));
-    let t = sizes(floor).t;
+    let t = value(floor, 1, 0, Field::C);
     let (width, depth) = match value(floor, kind, index, Field::A) {
         0 => (300, t + 1),
         width => draw.one_of(&[(0, 0), (width, t), (width, t + 1)]),
@@ -116,7 +113,7 @@ fn beam_put_or_taken(draw: &mut Draw, floor: &[u8]) -> Vec<u8> {
 }
 
 fn any_bytes(draw: &mut Draw, _: &[u8]) -> Vec<u8> {
-    let length = draw.between(0, 5_000) as usize;
+    let length = draw.between(0, 5_000);
     let whole_records = length / RECORD_BYTES * RECORD_BYTES;
     let length = draw.one_of(&[length, whole_records]);
     garbage(draw, length)

@@ -1,6 +1,6 @@
 //! Floors as they are drawn: clear ones wherever there are bays enough.
 
-use reference::builder::Floor;
+use floor::Floor;
 use reference::draw::Draw;
 use reference::floors::drawn::{self, Wanted};
 use reference::floors::LAYOUTS;
@@ -16,14 +16,14 @@ fn bays(draw: &mut Draw) -> (usize, usize) {
         13..=40 => (3, 6),
         _ => (3, 4),
     };
-    let mut bays = || draw.between(least, most) as usize;
+    let mut bays = || draw.between(least, most);
     (bays(), bays())
 }
 
 /// "nx or ny below 3."
 fn too_few_bays(draw: &mut Draw) -> (usize, usize) {
-    let few = draw.between(1, 2) as usize;
-    let others = draw.between(1, 12) as usize;
+    let few = draw.between(1, 2);
+    let others = draw.between(1, 12);
     draw.one_of(&[(few, others), (others, few)])
 }
 

@@ -1,6 +1,6 @@
 //! A drawn floor at the edge of one limit of the method, and just past it: "equality always passes".
 
-use reference::builder::{Floor, NO_BEAM};
+use floor::{Floor, NO_BEAM};
 use reference::draw::Draw;
 use reference::floors::drawn::no_thicker_than_asked;
 use reference::verdict::directions_are_too_unlike;
@@ -40,7 +40,7 @@ fn both(at: Floor, alter: impl Fn(&mut Floor)) -> Option<(Floor, Floor)> {
     Some((at, past))
 }
 
-fn longest(spans: &[u128]) -> u128 {
+fn longest(spans: &[u32]) -> u32 {
     *spans.iter().max().expect("a bay")
 }
 
@@ -75,7 +75,7 @@ fn neighbours(draw: &mut Draw, floor: &Floor) -> Option<(Floor, Floor)> {
     if bays < 2 || shorter < 1_020 {
         return None;
     }
-    let of_the_longer = draw.between(1, bays as u128 - 1) as usize;
+    let of_the_longer = draw.between(1, bays - 1);
     let mut at = without_offsets(floor);
     at.x_spans = vec![longer; bays];
     at.x_spans[of_the_longer..].fill(shorter);
@@ -85,7 +85,7 @@ fn neighbours(draw: &mut Draw, floor: &Floor) -> Option<(Floor, Floor)> {
 /// 8: "ten times an offset exceeds a span adjoining that column in its direction"
 fn offset(draw: &mut Draw, floor: &Floor) -> Option<(Floor, Floor)> {
     let bays = floor.x_spans.len();
-    let column = draw.between(0, floor.offsets.len() as u128 - 1) as usize;
+    let column = draw.between(0, floor.offsets.len() - 1);
     let line = column % (bays + 1);
     let adjoining = &floor.x_spans[line.saturating_sub(1)..bays.min(line + 1)];
     let shorter = adjoining.iter().min().expect("a span");
@@ -107,7 +107,7 @@ fn live_load(draw: &mut Draw, floor: &Floor) -> Option<(Floor, Floor)> {
 
 /// 32: the deepest beam on an x line that breaks nothing, by halving: the deeper it is, the stiffer.
 fn stiffness(draw: &mut Draw, floor: &Floor) -> Option<(Floor, Floor)> {
-    let line = draw.between(0, floor.x_lines.len() as u128 - 1) as usize;
+    let line = draw.between(0, floor.x_lines.len() - 1);
     let with_depth = |depth| {
         let mut floor = floor.clone();
         floor.x_lines[line].1 = depth;

@@ -18,7 +18,7 @@ pub fn case(case: &mut Case, number: u64) -> Result<(), String> {
     let (layout, _) = LAYOUTS[number / 4 % 3];
     let floor = of_bays(&mut case.draw, BAYS[number / 12 % 4], layout).bytes();
     for place in 0..floor.len() {
-        let bits = way.unwrap_or(case.draw.between(1, 255) as u8);
+        let bits = way.unwrap_or(case.draw.between(1, 255));
         let mut bytes = floor.clone();
         bytes[place] ^= bits;
         spoilt(case, &format!("byte {place} flipped by {bits:#x}"), &bytes)?;

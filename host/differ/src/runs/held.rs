@@ -5,8 +5,8 @@ use crate::lent::Lent;
 use crate::panels;
 use crate::same::same_answer;
 use crate::tally::{Step, Tally};
+use floor::Record;
 use gandhrumil::Answer;
-use reference::floor_file::Record;
 use reference::refusals::SUCCESS;
 use reference::verdict::judge;
 use reference::{held, opening};
@@ -68,7 +68,7 @@ impl Held {
     /// Any numbers in place of a stretch of the table, in both.
     pub fn spoil(&mut self, case: &mut Case) {
         let end = self.table.len();
-        let start = case.draw.between(0, end as u128) as usize;
+        let start = case.draw.between(0, end);
         let count = case.draw.one_of(&[1, 16, end]);
         let stretch = start..end.min(start + count);
         self.table_is_right &= stretch.is_empty();

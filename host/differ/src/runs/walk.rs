@@ -1,11 +1,10 @@
 //! Which change comes next.
 
-use reference::builder::with;
+use floor::{held, with, Record, RECORD_BYTES};
 use reference::cases::{tried_values, LISTED};
 use reference::draw::Draw;
-use reference::floor_file::{Record, RECORD_BYTES};
 use reference::runs::changes::taken::{clear_change_of, far, near};
-use reference::runs::changes::{any_index, held, refused, KINDS};
+use reference::runs::changes::{any_index, refused, KINDS};
 
 /// Keeps a clear floor clear for the most part, and brings a broken one back step by step.
 #[derive(Default)]
@@ -57,7 +56,7 @@ fn at_its_range(draw: &mut Draw, floor: &[u8]) -> Vec<u8> {
 }
 
 fn flipped(draw: &mut Draw, mut change: Vec<u8>) -> Vec<u8> {
-    let place = draw.between(0, RECORD_BYTES as u128 - 1) as usize;
-    change[place] ^= draw.between(1, 255) as u8;
+    let place = draw.between(0, RECORD_BYTES - 1);
+    change[place] ^= draw.between(1, 255);
     change
 }

@@ -2,7 +2,7 @@
 
 use super::order::{self, FAULTS};
 use super::{Case, KINDS, STRAY_VALUES, UNLISTED};
-use crate::builder::{last_index, record, with, Field, Floor};
+use floor::{last_index, record, with, Field, Floor};
 
 pub fn cases() -> Vec<Case> {
     [
@@ -26,7 +26,7 @@ fn base() -> Vec<u8> {
 }
 
 /// Good values for each kind, other than built floors have.
-pub fn good_values(kind: u128) -> [u128; 3] {
+pub fn good_values(kind: u16) -> [u32; 3] {
     match kind {
         1 => [2, 1, 150],
         2 => [25, 280, 0],
@@ -80,11 +80,11 @@ fn indices() -> Vec<Case> {
 }
 
 /// "kind 3 or 5..9"
-pub fn is_changeable(kind: u128) -> bool {
+pub fn is_changeable(kind: u16) -> bool {
     [3, 5, 6, 7, 8, 9].contains(&kind)
 }
 
-pub fn changeable() -> Vec<(u128, &'static str)> {
+pub fn changeable() -> Vec<(u16, &'static str)> {
     let mut kinds = KINDS.to_vec();
     kinds.retain(|&(kind, _)| is_changeable(kind));
     kinds

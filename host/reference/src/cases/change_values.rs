@@ -2,7 +2,7 @@
 
 use super::change_refusals::{changeable, good_values, is_changeable};
 use super::{tried_values, Case, KINDS, LISTED};
-use crate::builder::{last_index, record, value, with, Field, Floor};
+use floor::{last_index, record, value, with, Field, Floor};
 
 pub fn cases() -> Vec<Case> {
     [
@@ -42,7 +42,7 @@ fn taken() -> Vec<Case> {
 }
 
 /// The record as it stands in the floor.
-fn held(floor: &[u8], kind: u128, index: u128) -> Vec<u8> {
+fn held(floor: &[u8], kind: u16, index: u16) -> Vec<u8> {
     let fields = [Field::A, Field::B, Field::C];
     record(
         kind,
@@ -76,7 +76,7 @@ fn ranges() -> Vec<Case> {
         if !is_changeable(kind) {
             continue;
         }
-        let high_bytes = [value(&floor, kind, 0, field) + (1 << 16), (1 << 32) - 1];
+        let high_bytes = [value(&floor, kind, 0, field) + (1 << 16), u32::MAX];
         for &tried in tried_values(kind, field).iter().chain(&high_bytes) {
             cases.push(Case::change(
                 format!("{name} {tried}"),

@@ -1,8 +1,8 @@
 //! Floors alone, for refusals 1 to 4: length, sizes, count, order and zero fields.
 
 use super::{Case, KINDS, STRAY_VALUES, UNLISTED};
-use crate::builder::{last_index, record, with, with_swapped, Field, Floor};
 use crate::floor_file::RECORD_BYTES;
+use floor::{last_index, record, with, with_swapped, Field, Floor};
 
 pub fn cases() -> Vec<Case> {
     [
@@ -132,7 +132,7 @@ fn kinds() -> Vec<Case> {
         for wrong in [kind - 1, kind + 1, kind + 256] {
             cases.push(Case::floor(
                 format!("{name} {last} of kind {wrong}"),
-                with(&base, kind, last, Field::Kind, wrong),
+                with(&base, kind, last, Field::Kind, wrong.into()),
             ));
         }
     }
@@ -152,7 +152,7 @@ fn indices() -> Vec<Case> {
         for (index, wrong) in wrongs {
             cases.push(Case::floor(
                 format!("{name} {index} numbered {wrong}"),
-                with(&base, kind, index, Field::Index, wrong),
+                with(&base, kind, index, Field::Index, wrong.into()),
             ));
         }
     }

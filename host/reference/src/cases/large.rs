@@ -1,7 +1,7 @@
 //! The largest floors, and files past them.
 
 use super::Case;
-use crate::builder::{record, with, Field, Floor};
+use floor::{record, with, Field, Floor};
 
 /// 12 by 12 bays with nothing left out and every value at the end of its range or near it.
 fn full() -> Vec<u8> {

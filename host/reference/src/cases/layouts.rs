@@ -1,7 +1,7 @@
 //! Floors alone, for refusal 7 and the three layouts.
 
 use super::Case;
-use crate::builder::{last_index, with, Field, Floor};
+use floor::{last_index, with, Field, Floor};
 
 pub fn cases() -> Vec<Case> {
     let mut cases = Vec::new();

@@ -1,76 +1,63 @@
 //! Floors with every value drawn, so that no value stands for another by chance.
 
 use super::Case;
-use crate::builder::{record, Floor};
+use crate::draw::Draw;
+use floor::{record, Floor};
 
-/// A fixed sequence: the same cases each time.
-struct Draw(u128);
-
-impl Draw {
-    fn below(&mut self, bound: u128) -> u128 {
-        self.0 = (self.0 * 6_364_136_223_846_793_005 + 1_442_695_040_888_963_407) % (1 << 64);
-        (self.0 >> 32) % bound
+fn floor(draw: &mut Draw) -> Floor {
+    let (nx, ny) = (draw.between(1, 3), draw.between(1, 3));
+    let (inner, outer) = draw.one_of(&[("0", "0"), ("0", "1"), ("1", "1")]);
+    let lines = |bays: usize| format!("{outer}{}{outer}", inner.repeat(bays - 1));
+    let mut floor = Floor::good(nx, ny).with_beams(&lines(ny), &lines(nx));
+    floor.t = draw.between(90, 500);
+    floor.fc = draw.between(20, 60);
+    floor.fy = draw.one_of(&[280, 420, 520]);
+    floor.dead = draw.between(1_000, 30_000);
+    floor.live = draw.between(0, 50_000);
+    floor.cx = 10 * draw.between(20, 50);
+    floor.cy = 10 * draw.between(20, 50);
+    floor.sides = (0..4).fold(0, |sides, _| 4 * sides + draw.between(0, 2));
+    for span in floor.x_spans.iter_mut().chain(&mut floor.y_spans) {
+        *span = 20 * draw.between(50, 600);
     }
-
-    fn floor(&mut self) -> Floor {
-        let mut floor = Floor::good(1 + self.below(3) as usize, 1 + self.below(3) as usize);
-        let (inner_beams, outer_beams) =
-            [("0", "0"), ("0", "1"), ("1", "1")][self.below(3) as usize];
-        let lines = |lines: usize| {
-            format!(
-                "{outer_beams}{}{outer_beams}",
-                inner_beams.repeat(lines - 2)
-            )
-        };
-        floor = floor
-            .clone()
-            .with_beams(&lines(floor.x_lines.len()), &lines(floor.y_lines.len()));
-        floor.t = 90 + self.below(411);
-        floor.fc = 20 + self.below(41);
-        floor.fy = [280, 420, 520][self.below(3) as usize];
-        floor.dead = 1_000 + self.below(29_001);
-        floor.live = self.below(50_001);
-        floor.cx = 200 + 10 * self.below(31);
-        floor.cy = 200 + 10 * self.below(31);
-        floor.sides = (0..4).fold(0, |sides, _| 4 * sides + self.below(3));
-        for span in floor.x_spans.iter_mut().chain(&mut floor.y_spans) {
-            *span = 1_000 + 20 * self.below(551);
+    for (width, depth) in floor.x_lines.iter_mut().chain(&mut floor.y_lines) {
+        if *width > 0 {
+            *width = draw.between(150, 1_000);
+            *depth = draw.between(floor.t + 1, 1_500);
         }
-        for (width, depth) in floor.x_lines.iter_mut().chain(&mut floor.y_lines) {
-            if *width > 0 {
-                *width = 150 + self.below(851);
-                *depth = floor.t + 1 + self.below(1_500 - floor.t);
-            }
-        }
-        for offset in &mut floor.offsets {
-            *offset = (self.below(12_001), self.below(12_001));
-        }
-        floor
     }
+    for offset in &mut floor.offsets {
+        *offset = (draw.between(0, 12_000), draw.between(0, 12_000));
+    }
+    floor
+}
 
-    fn change(&mut self) -> Vec<u8> {
-        let kind = 5 + self.below(5);
-        let a = 20 * self.below(601);
-        match kind {
-            5 | 6 => record(kind, self.below(4), [a, 0, 0]),
-            7 | 8 => record(kind, self.below(4), [a % 1_010, self.below(1_600), 0]),
-            _ => record(kind, self.below(17), [a, self.below(12_100), 0]),
-        }
+fn change(draw: &mut Draw) -> Vec<u8> {
+    let kind = draw.between(5, 9);
+    let a = 20 * draw.between(0, 600);
+    match kind {
+        5 | 6 => record(kind, draw.between(0, 3), [a, 0, 0]),
+        7 | 8 => record(
+            kind,
+            draw.between(0, 3),
+            [a % 1_010, draw.between(0, 1_599), 0],
+        ),
+        _ => record(kind, draw.between(0, 16), [a, draw.between(0, 12_099), 0]),
     }
 }
 
 pub fn cases() -> Vec<Case> {
-    let mut draw = Draw(318);
+    let mut draw = Draw::starting_at(8);
     let mut cases = Vec::new();
     for number in 1..=12 {
-        let floor = draw.floor().bytes();
-        let broken = draw.below(floor.len() as u128) as usize;
+        let floor = floor(&mut draw).bytes();
+        let broken = draw.between(0, floor.len() - 1);
         let mut bytes = floor.clone();
-        bytes[broken] ^= 1 << draw.below(8);
+        bytes[broken] ^= 1 << draw.between(0, 7);
         cases.push(Case::change(
             format!("drawn {number}"),
             &floor,
-            draw.change(),
+            change(&mut draw),
         ));
         cases.push(Case::floor(format!("drawn floor {number}"), floor));
         cases.push(Case::floor(

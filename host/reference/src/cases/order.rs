@@ -1,8 +1,8 @@
 //! Floors alone with two faults at once: the lower number has to come out, wherever the faults stand.
 
 use super::Case;
-use crate::builder::{with, Field, Floor};
 use crate::floor_file::RECORD_BYTES;
+use floor::{with, Field, Floor};
 
 pub struct Fault {
     pub refusal: u128,

@@ -1,7 +1,7 @@
 //! Floors alone, for the ranges of refusals 2 and 5 and for refusal 6.
 
 use super::{tried_values, Case, LISTED};
-use crate::builder::{last_index, value, with, Field, Floor};
+use floor::{last_index, value, with, Field, Floor};
 
 pub fn cases() -> Vec<Case> {
     [
@@ -43,7 +43,7 @@ fn high_bytes() -> Vec<Case> {
     let mut cases = Vec::new();
     for (kind, field, name) in LISTED {
         let good = value(&base, kind, 0, field);
-        for tried in [good + (1 << 16), good + (1 << 24), (1 << 32) - 1] {
+        for tried in [good + (1 << 16), good + (1 << 24), u32::MAX] {
             cases.push(Case::floor(
                 format!("{name} {tried}"),
                 with(&base, kind, 0, field, tried),

@@ -1,11 +1,11 @@
 //! A floor and what is asked of it.
 
 use super::Figure;
-use crate::builder::Floor;
 use crate::floor_file::sizes;
 use crate::span::NUMBERS;
 use crate::table::{numbers, x_record, y_record};
 use crate::verdict::judge;
+use floor::Floor;
 
 /// "Mo, then low end, between, high end", each of five numbers.
 #[derive(Clone, Copy, Debug, PartialEq, Eq)]

@@ -3,8 +3,8 @@
 use super::asked::Place::{Between, High, Low};
 use super::asked::Share::{Beam, Column, Middle, Total};
 use super::asked::{moment, question, section, Along, Asked, What};
-use crate::builder::{Floor, NO_BEAM};
 use crate::floors::small::one_bay;
+use floor::{Floor, NO_BEAM};
 
 pub fn floors() -> Vec<Asked> {
     let mut floors = figures_of_01();
@@ -27,7 +27,7 @@ fn judged(number: u32, verdict: u32, floor: Floor) -> Asked {
 }
 
 /// Three bays along x, the middle one another.
-fn middle_bay(span: u128) -> Floor {
+fn middle_bay(span: u32) -> Floor {
     Floor {
         x_spans: vec![6_000, span, 6_000],
         ..Floor::clear(3, 3)
@@ -35,7 +35,7 @@ fn middle_bay(span: u128) -> Floor {
 }
 
 /// A column inside moved along x.
-fn moved_column(offset: u128) -> Floor {
+fn moved_column(offset: u32) -> Floor {
     let mut floor = Floor::clear(3, 3);
     floor.offsets[5] = (offset, 0);
     floor

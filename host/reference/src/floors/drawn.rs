@@ -1,18 +1,18 @@
 //! Floors drawn whole, with a slab as thick as their worst panel asks.
 
-use crate::builder::{Floor, NO_BEAM};
 use crate::draw::Draw;
 use crate::layout::Layout;
 use crate::panel::{least_thickness, panels};
 use crate::refusals::SUCCESS;
 use crate::verdict::judge;
+use floor::{Floor, NO_BEAM};
 
 #[derive(Clone, Copy, Debug)]
 pub struct Wanted {
     pub nx: usize,
     pub ny: usize,
     pub layout: Layout,
-    pub sides: u128,
+    pub sides: u32,
 }
 
 /// Draws until no limit is broken.
@@ -67,7 +67,7 @@ fn attempt(draw: &mut Draw, wanted: Wanted) -> Floor {
 }
 
 /// Now and then all alike, else not far from the middle.
-fn spans(draw: &mut Draw, bays: usize, middle: u128) -> Vec<u128> {
+fn spans(draw: &mut Draw, bays: usize, middle: u32) -> Vec<u32> {
     let spread = draw.one_of(&[0, 5, 12, 19]) * middle / 100;
     (0..bays)
         .map(|_| draw.between(middle - spread, middle + spread))
@@ -76,22 +76,22 @@ fn spans(draw: &mut Draw, bays: usize, middle: u128) -> Vec<u128> {
 }
 
 /// Mostly a small part of the span, now and then up to half of it: "2cx exceeds an x span".
-fn column(draw: &mut Draw, spans: &[u128]) -> u128 {
+fn column(draw: &mut Draw, spans: &[u32]) -> u32 {
     let shortest = *spans.iter().min().expect("a bay");
     let part = draw.one_of(&[12, 10, 8, 2]);
     10 * draw.between(20, (shortest / part / 10).clamp(20, 150))
 }
 
 /// No n is below 28, and beams only make a panel thinner; 125 is the least of all but stiff beams.
-fn thick(x_spans: &[u128], y_spans: &[u128]) -> u128 {
+fn thick(x_spans: &[u32], y_spans: &[u32]) -> u32 {
     let longest = *x_spans.iter().chain(y_spans).max().expect("a bay");
     longest.div_ceil(28).max(125)
 }
 
 /// Width and depth of the beam on each line.
-type Beams = Vec<(u128, u128)>;
+type Beams = Vec<(u32, u32)>;
 
-fn beams(draw: &mut Draw, wanted: Wanted, t: u128) -> (Beams, Beams) {
+fn beams(draw: &mut Draw, wanted: Wanted, t: u32) -> (Beams, Beams) {
     // From barely deeper than the slab to many times stiffer than it, in percent of its thickness.
     let depth = draw.one_of(&[100, 115, 150, 200, 300, 400]) * t / 100;
     let width = draw.between(150, 800);
@@ -107,9 +107,9 @@ fn beams(draw: &mut Draw, wanted: Wanted, t: u128) -> (Beams, Beams) {
 }
 
 /// Up to a tenth of the shorter span adjoining the column, on some floors none.
-fn offsets(draw: &mut Draw, x_spans: &[u128], y_spans: &[u128]) -> Vec<(u128, u128)> {
+fn offsets(draw: &mut Draw, x_spans: &[u32], y_spans: &[u32]) -> Vec<(u32, u32)> {
     let percent = draw.one_of(&[0, 10, 60]);
-    let tenth = |line: usize, spans: &[u128]| {
+    let tenth = |line: usize, spans: &[u32]| {
         let low = spans[line.saturating_sub(1)];
         let high = spans[line.min(spans.len() - 1)];
         low.min(high) / 10
@@ -127,12 +127,11 @@ fn offsets(draw: &mut Draw, x_spans: &[u128], y_spans: &[u128]) -> Vec<(u128, u1
     offsets
 }
 
-fn worst_panel(floor: &Floor) -> u128 {
+fn worst_panel(floor: &Floor) -> u32 {
     let bytes = floor.bytes();
-    let thicknesses = panels(&bytes)
-        .into_iter()
-        .map(|(i, j)| least_thickness(&bytes, i, j));
-    thicknesses.max().expect("a panel")
+    let panels = panels(&bytes).into_iter();
+    let thicknesses = panels.map(|(i, j)| least_thickness(&bytes, i, j));
+    thicknesses.max().expect("a panel") as u32
 }
 
 /// A thinner slab makes its beams stiffer and so, as a rule, no panel ask for more. Where one does, S

@@ -2,10 +2,10 @@
 
 use super::drawn::{self, Wanted};
 use super::{Described, LAYOUTS};
-use crate::builder::Floor;
 use crate::draw::Draw;
 use crate::layout::Layout;
 use crate::verdict::{directions_are_too_unlike, judge};
+use floor::Floor;
 
 type Edge = (String, Floor);
 
@@ -102,7 +102,7 @@ fn loads() -> Vec<Edge> {
 
 /// Beams of twice the slab's depth and columns of half a span: α is 160000·b over the span across, on
 /// outer lines as on inner ones.
-fn even(spans: (u128, u128), widths: (u128, u128), t: u128) -> Floor {
+fn even(spans: (u32, u32), widths: (u32, u32), t: u32) -> Floor {
     let (x_span, y_span) = spans;
     Floor {
         t,
@@ -148,7 +148,7 @@ fn drawn_stiffnesses() -> Vec<Edge> {
             sides: draw.one_of(&[0, 38, 145]),
         };
         let mut floor = drawn::clear(&mut draw, wanted);
-        let line = draw.between(0, 4) as usize;
+        let line = draw.between(0, 4);
         let unlike = |floor: &Floor| directions_are_too_unlike(&floor.bytes());
         while !unlike(&floor) && floor.x_lines[line].1 < 1_500 {
             floor.x_lines[line].1 += 1;
@@ -209,12 +209,12 @@ fn thicknesses() -> Vec<Edge> {
     edges
 }
 
-fn thinnest(draw: &mut Draw, layout: Layout, fy: u128) -> Floor {
+fn thinnest(draw: &mut Draw, layout: Layout, fy: u32) -> Floor {
     let clear = |floor: &Floor| judge(&floor.bytes()) == (0, 0);
     loop {
         let wanted = Wanted {
-            nx: draw.between(3, 5) as usize,
-            ny: draw.between(3, 5) as usize,
+            nx: draw.between(3, 5),
+            ny: draw.between(3, 5),
             layout,
             sides: 0,
         };

@@ -1,8 +1,8 @@
 //! Floors and other bytes that are refused, each number in several ways.
 
 use super::Described;
-use crate::builder::{record, with, with_swapped, Field, Floor};
 use crate::floor_file::RECORD_BYTES;
+use floor::{record, with, with_swapped, Field, Floor};
 
 /// Beams everywhere, so that taking one away spoils the layout. Columns are 400 by 300, t 200.
 fn base() -> Vec<u8> {
@@ -53,7 +53,7 @@ fn records_too_many_or_too_few() -> Vec<Described> {
 }
 
 /// One field of one record, by kind and index, and what is put in it: refusals 2 to 6.
-const FIELDS: [(u128, u128, Field, u128); 39] = [
+const FIELDS: [(u16, u16, Field, u32); 39] = [
     (1, 0, Field::Kind, 2),
     (1, 0, Field::Index, 1),
     (1, 0, Field::A, 0),

@@ -2,8 +2,8 @@
 
 use super::drawn::{self, Wanted};
 use super::{Described, LAYOUTS};
-use crate::builder::Floor;
 use crate::draw::Draw;
+use floor::Floor;
 
 const SIZES: [(usize, usize); 10] = [
     (1, 1),

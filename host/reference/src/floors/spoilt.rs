@@ -2,9 +2,9 @@
 
 use super::drawn::{self, Wanted};
 use super::{Described, LAYOUTS};
-use crate::builder::{Floor, NO_BEAM};
 use crate::draw::Draw;
 use crate::verdict::judge;
+use floor::{Floor, NO_BEAM};
 
 type Spoil = fn(&mut Draw, &mut Floor);
 
@@ -23,28 +23,28 @@ fn spoil_loads(draw: &mut Draw, floor: &mut Floor) {
 }
 
 /// Anywhere from the shortest that the column allows.
-fn any_span(draw: &mut Draw, column: u128) -> u128 {
+fn any_span(draw: &mut Draw, column: u32) -> u32 {
     20 * draw.between((2 * column).div_ceil(20).max(50), 600)
 }
 
 fn spoil_x_span(draw: &mut Draw, floor: &mut Floor) {
-    let bay = draw.between(0, floor.x_spans.len() as u128 - 1) as usize;
+    let bay = draw.between(0, floor.x_spans.len() - 1);
     floor.x_spans[bay] = any_span(draw, floor.cx);
 }
 
 fn spoil_y_span(draw: &mut Draw, floor: &mut Floor) {
-    let bay = draw.between(0, floor.y_spans.len() as u128 - 1) as usize;
+    let bay = draw.between(0, floor.y_spans.len() - 1);
     floor.y_spans[bay] = any_span(draw, floor.cy);
 }
 
 fn spoil_offset(draw: &mut Draw, floor: &mut Floor) {
-    let column = draw.between(0, floor.offsets.len() as u128 - 1) as usize;
+    let column = draw.between(0, floor.offsets.len() - 1);
     floor.offsets[column] = (draw.between(0, 12_000), draw.between(0, 12_000));
 }
 
 /// The widest and deepest on a line that has a beam.
 fn spoil_beam(draw: &mut Draw, floor: &mut Floor) {
-    let line = draw.between(0, floor.y_lines.len() as u128 - 1) as usize;
+    let line = draw.between(0, floor.y_lines.len() - 1);
     if floor.y_lines[line] != NO_BEAM {
         floor.y_lines[line] = (1_000, 1_500);
     }
@@ -77,8 +77,8 @@ pub fn floors() -> Vec<Described> {
     for number in 0..36 {
         let (layout, words) = LAYOUTS[number % 3];
         let wanted = Wanted {
-            nx: draw.between(3, 7) as usize,
-            ny: draw.between(3, 7) as usize,
+            nx: draw.between(3, 7),
+            ny: draw.between(3, 7),
             layout,
             sides: draw.one_of(&[0, 1, 32, 70, 170]),
         };

@@ -104,7 +104,7 @@ pub fn shallow(draw: &mut Draw) -> Query {
 pub fn stray(draw: &mut Draw) -> Query {
     let mut numbers = real(draw).numbers();
     for _ in 0..draw.between(1, 2) {
-        let place = draw.between(0, 5) as usize;
+        let place = draw.between(0, 5);
         let bits = draw.between(1, 64);
         numbers[place] = u128::from(draw.bits()) >> (64 - bits);
     }

@@ -3,28 +3,20 @@
 pub mod refused;
 pub mod taken;
 
-use crate::builder::{last_index, record, value, Field};
 use crate::change;
 use crate::draw::Draw;
-use crate::floor_file::Record;
 use crate::refusals::SUCCESS;
 use crate::verdict::judge;
+use floor::{held, last_index, Record};
 
 /// "kind 3 or 5..9"
-pub const KINDS: [u128; 6] = [3, 5, 6, 7, 8, 9];
+pub const KINDS: [u16; 6] = [3, 5, 6, 7, 8, 9];
 
 /// How often each is drawn until another one is taken in its place.
 const TRIES: usize = 12;
 
-pub fn any_index(draw: &mut Draw, floor: &[u8], kind: u128) -> u128 {
+pub fn any_index(draw: &mut Draw, floor: &[u8], kind: u16) -> u16 {
     draw.between(0, last_index(floor, kind))
-}
-
-/// The record as it stands in the floor.
-pub fn held(floor: &[u8], kind: u128, index: u128) -> Vec<u8> {
-    let fields = [Field::A, Field::B, Field::C];
-    let fields = fields.map(|field| value(floor, kind, index, field));
-    record(kind, index, fields)
 }
 
 /// The verdict of the floor with the change in it, `None` where the change is refused.
@@ -38,7 +30,7 @@ fn verdict_with(floor: &[u8], change: &[u8]) -> Option<u128> {
 pub struct Changing {
     floor: Vec<u8>,
     /// The kinds of those that are taken.
-    kinds: &'static [u128],
+    kinds: &'static [u16],
     /// Whether some break a limit, and others mend it.
     breaks: bool,
     /// Puts back what a change has broken.
@@ -106,12 +98,12 @@ impl Changing {
 }
 
 /// Changes of the floor, each on what those before it leave.
-pub fn changes(draw: &mut Draw, mut changing: Changing, count: u128) -> Vec<Vec<u8>> {
+pub fn changes(draw: &mut Draw, mut changing: Changing, count: usize) -> Vec<Vec<u8>> {
     (0..count).map(|_| changing.next(draw)).collect()
 }
 
 /// Changes of the floor, each on the floor as it is.
-pub fn changes_never_stored(draw: &mut Draw, floor: &[u8], count: u128) -> Vec<Vec<u8>> {
+pub fn changes_never_stored(draw: &mut Draw, floor: &[u8], count: usize) -> Vec<Vec<u8>> {
     let changes = (0..count).map(|_| Changing::of(floor).next(draw));
     changes.collect()
 }

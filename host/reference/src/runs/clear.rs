@@ -3,12 +3,12 @@
 use super::changes::{changes, Changing};
 use super::tables::{table, Held};
 use super::Run;
-use crate::builder::Floor;
 use crate::draw::Draw;
 use crate::floors::drawn::{self, Wanted};
 use crate::floors::LAYOUTS;
 use crate::layout::Layout;
 use crate::verdict::judge;
+use floor::Floor;
 
 /// Bays: most of them few, each several times.
 const SIZES: [(usize, usize); 18] = [
@@ -47,7 +47,7 @@ const LARGE: [(usize, usize); 9] = [
 
 const HELD: [Held; 4] = [Held::Right, Held::SomeWrong, Held::AllWrong, Held::Zeros];
 
-pub fn any_sides(draw: &mut Draw) -> u128 {
+pub fn any_sides(draw: &mut Draw) -> u32 {
     (0..4).fold(0, |sum, _| 4 * sum + draw.between(0, 2))
 }
 

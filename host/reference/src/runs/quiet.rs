@@ -6,9 +6,9 @@ use super::changes::{changes, Changing};
 use super::clear;
 use super::tables::{table, Held};
 use super::Run;
-use crate::builder::last_index;
 use crate::draw::Draw;
 use crate::floors::LAYOUTS;
+use floor::last_index;
 
 pub fn runs() -> Vec<Run> {
     [single_changes(), several_changes()].concat()
@@ -20,8 +20,8 @@ fn single_changes() -> Vec<Run> {
     let mut runs = Vec::new();
     for (layout, words) in LAYOUTS {
         for kind in [5, 6, 7, 8, 9] {
-            let nx = draw.between(3, 6) as usize;
-            let ny = draw.between(3, 6) as usize;
+            let nx = draw.between(3, 6);
+            let ny = draw.between(3, 6);
             let floor = clear::floor(&mut draw, nx, ny, layout);
             let last = last_index(&floor, kind);
             for index in [0, draw.between(1, last - 1), last] {
@@ -45,8 +45,8 @@ fn several_changes() -> Vec<Run> {
     for number in 0..36 {
         let (layout, words) = LAYOUTS[number % 3];
         let most = if number < 6 { 12 } else { 7 };
-        let nx = draw.between(3, most) as usize;
-        let ny = draw.between(3, most) as usize;
+        let nx = draw.between(3, most);
+        let ny = draw.between(3, most);
         let floor = clear::floor(&mut draw, nx, ny, layout);
         let held = draw.one_of(&[Held::SomeWrong, Held::AllWrong]);
         let count = draw.between(2, 6);

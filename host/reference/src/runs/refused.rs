@@ -5,10 +5,10 @@ use super::changes::changes_never_stored;
 use super::clear;
 use super::tables::{any_numbers, table, Held};
 use super::Run;
-use crate::builder::Floor;
 use crate::draw::Draw;
 use crate::floors::{self, Described, LAYOUTS};
 use crate::refusals::refusal;
+use floor::Floor;
 
 pub fn runs() -> Vec<Run> {
     [short_tables(), refused_floors()].concat()

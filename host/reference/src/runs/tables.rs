@@ -12,7 +12,7 @@ pub enum Held {
 }
 
 /// A table for a floor that is not refused, and a tail past it.
-pub fn table(draw: &mut Draw, floor: &[u8], held: Held, tail: u128) -> Vec<u32> {
+pub fn table(draw: &mut Draw, floor: &[u8], held: Held, tail: usize) -> Vec<u32> {
     let right = numbers(floor);
     let mut number = |right: u32| match held {
         Held::Right => right,
@@ -25,6 +25,6 @@ pub fn table(draw: &mut Draw, floor: &[u8], held: Held, tail: u128) -> Vec<u32> 
     table
 }
 
-pub fn any_numbers(draw: &mut Draw, count: u128) -> Vec<u32> {
+pub fn any_numbers(draw: &mut Draw, count: usize) -> Vec<u32> {
     (0..count).map(|_| draw.number()).collect()
 }

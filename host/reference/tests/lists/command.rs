@@ -1,6 +1,7 @@
 //! The command: what it prints of a floor or a query, and the example floor that is kept.
 
 use reference::cases;
+use reference::floors::small::one_bay;
 use reference::garage::garage;
 use reference::sheet::sheet;
 use reference::table::numbers;
@@ -50,6 +51,14 @@ fn printed_by_the_command(word: &str, floor: &[u8]) -> Vec<u8> {
     let output = command.wait_with_output().unwrap();
     assert!(output.status.success());
     output.stdout
+}
+
+/// 01's floor of one bay each way: 4,000 less 400 over 30 is 120, and 125 is the least.
+#[test]
+fn the_command_prints_what_is_judged() {
+    let one_bay = one_bay().bytes();
+    assert_eq!(printed_by_the_command("judge", &one_bay), b"0 1\n125\n");
+    assert_eq!(printed_by_the_command("judge", &one_bay[1..]), b"1 255\n");
 }
 
 #[test]

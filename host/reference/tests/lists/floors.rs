@@ -1,11 +1,12 @@
 //! The floors that the printing program is held against.
 
+use floor::Floor;
 use reference::floor_file::{records_of_kind, sides, sizes};
 use reference::floors::{self, Described};
 use reference::frame::{x_frames, y_frames, Frame, OuterEnd};
 use reference::layout::{layout, Layout};
 use reference::moments::clear_length;
-use reference::panel::{panels, x_line_alphas, y_line_alphas};
+use reference::panel::{panel, panels, x_line_alphas, y_line_alphas};
 use reference::stiffness::torsion;
 use reference::strips::{beam_ratio, l2, span_ratio, torsion_ratio};
 use reference::verdict::judge;
@@ -171,4 +172,26 @@ fn every_way_through_the_thickness() {
         }
     }
     assert_eq!(seen.len(), 3, "{seen:?}");
+}
+
+/// No rule tells x from y, so a floor with both changed round has the same verdict, and its panels the
+/// same thicknesses.
+#[test]
+fn floors_transposed() {
+    let mut seen = BTreeSet::new();
+    for Described { description, bytes } in all_floors() {
+        let (0, verdict) = judge(bytes) else { continue };
+        let floor = Floor::of(bytes).expect("a floor that is taken");
+        let across = floor.transposed().bytes();
+        assert_eq!(judge(&across), (0, verdict), "{description}");
+        for x in 0..=floor.x_spans.len() as u128 {
+            for y in 0..=floor.y_spans.len() as u128 {
+                let (along, across) = (panel(bytes, x, y), panel(&across, y, x));
+                assert_eq!(along, across, "{description}, {x} {y}");
+            }
+        }
+        seen.extend([1, 2, 4, 8, 16, 32, 64].map(|limit| (limit, verdict & limit != 0)));
+    }
+    // Each of the seven, broken and not.
+    assert_eq!(seen.len(), 14);
 }

@@ -1,6 +1,6 @@
 //! Floors typed record by record, made without the code under test.
 
-use reference::builder::Floor;
+use floor::Floor;
 
 /// The floor at the end of "The printing program".
 pub const ONE_BAY: &str = "

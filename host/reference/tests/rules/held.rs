@@ -2,7 +2,7 @@
 
 use crate::hand_made::{self, ONE_BAY};
 use crate::verdict::refused;
-use reference::builder::{last_index, record, with, Field, Floor};
+use floor::{last_index, record, with, Field, Floor};
 use reference::floor_file::sizes;
 use reference::held::change;
 use reference::named::named;
@@ -21,7 +21,7 @@ fn clear() -> Vec<u8> {
 }
 
 /// One change of each kind and index that keeps `clear` clear and alters something.
-fn clear_changes(floor: &[u8]) -> Vec<(u128, u128, Vec<u8>)> {
+fn clear_changes(floor: &[u8]) -> Vec<(u16, u16, Vec<u8>)> {
     let mut changes = Vec::new();
     for (kind, values) in [
         (3, [6_000, 3_000, 0]),
@@ -49,7 +49,7 @@ fn only_the_named_records_are_written() {
         table.extend(TAIL);
         assert_eq!(change(&mut held, &mut table, &bytes), (0, 0));
         let right = numbers(&held);
-        let named = named(kind, index, sizes(&floor));
+        let named = named(kind.into(), index.into(), sizes(&floor));
         for record in 0..31 {
             let expected = match named.contains(&record) {
                 true => right[place(record)].to_vec(),

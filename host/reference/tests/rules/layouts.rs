@@ -1,6 +1,6 @@
 //! "Layouts allowed: beams on every line; on the four outer lines only; on none."
 
-use reference::builder::Floor;
+use floor::Floor;
 use reference::layout::{layout, Layout};
 use reference::refusals::refusal;
 

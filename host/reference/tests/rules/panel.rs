@@ -1,14 +1,11 @@
-//! The panel query, and least thicknesses as the command prints them.
+//! The panel query, and the least thicknesses of a whole floor.
 
 use crate::hand_made::{self, ONE_BAY, THIN, TWO_BY_ONE};
 use crate::verdict::refused;
-use reference::builder::Floor;
+use floor::Floor;
 use reference::panel::{adjoining, panel, x_line_alphas, y_line_alphas};
 use reference::stiffness::Adjoining;
-use reference::verdict::{judge, judged};
-use std::collections::BTreeSet;
-use std::io::Write;
-use std::process::{Command, Stdio};
+use reference::verdict::judged;
 
 #[test]
 fn what_adjoins_first_inner_and_last_lines() {
@@ -173,113 +170,4 @@ fn refused_floors() {
     }
     assert_eq!(panel(&[], 0, 0), (1, 0));
     assert_eq!(judged(&[]), "1 255\n");
-}
-
-fn printed_by_the_command(floor: &[u8]) -> String {
-    let mut command = Command::new(env!("CARGO_BIN_EXE_reference"))
-        .arg("judge")
-        .stdin(Stdio::piped())
-        .stdout(Stdio::piped())
-        .spawn()
-        .unwrap();
-    // Taken, so that it is closed once written.
-    command.stdin.take().unwrap().write_all(floor).unwrap();
-    let output = command.wait_with_output().unwrap();
-    assert!(output.status.success());
-    String::from_utf8(output.stdout).unwrap()
-}
-
-#[test]
-fn the_command_prints_what_is_judged() {
-    let one_bay = hand_made::floor(ONE_BAY);
-    assert_eq!(printed_by_the_command(&one_bay), "0 1\n125\n");
-    assert_eq!(printed_by_the_command(&one_bay[1..]), "1 255\n");
-    assert_eq!(
-        printed_by_the_command(&without_beams().bytes()),
-        WITHOUT_BEAMS
-    );
-}
-
-/// Draws the same numbers each time.
-struct Numbers(u64);
-
-impl Numbers {
-    /// Both ends included.
-    fn draw(&mut self, low: u128, high: u128) -> u128 {
-        // The generator of Knuth's MMIX; its low bits repeat soonest.
-        self.0 = self.0.wrapping_mul(6_364_136_223_846_793_005);
-        self.0 = self.0.wrapping_add(1_442_695_040_888_963_407);
-        low + u128::from(self.0 >> 33) % (high - low + 1)
-    }
-
-    fn spans(&mut self, middle: u128) -> Vec<u128> {
-        let bays = self.draw(1, 5);
-        let spread = self.draw(0, 90);
-        (0..bays)
-            .map(|_| 20 * self.draw(middle - spread, middle + spread))
-            .collect()
-    }
-
-    fn beams(&mut self, lines: usize) -> Vec<(u128, u128)> {
-        let (width, depth) = (self.draw(150, 800), self.draw(300, 900));
-        (0..lines)
-            .map(|_| (width + self.draw(0, 200), depth + self.draw(0, 50)))
-            .collect()
-    }
-
-    fn floor(&mut self) -> Floor {
-        let middle = self.draw(150, 350);
-        let (x_spans, y_spans) = (self.spans(middle), self.spans(middle + 50));
-        let (nx, ny) = (x_spans.len(), y_spans.len());
-        let largest_offset = self.draw(0, 500);
-        let mut floor = Floor {
-            t: self.draw(90, 290),
-            fy: [280, 420, 520][self.draw(0, 2) as usize],
-            dead: self.draw(1_000, 5_000),
-            live: self.draw(0, 6_000),
-            cx: 10 * self.draw(20, 60),
-            cy: 10 * self.draw(20, 60),
-            x_spans,
-            y_spans,
-            offsets: (0..(nx + 1) * (ny + 1))
-                .map(|_| (self.draw(0, largest_offset), self.draw(0, largest_offset)))
-                .collect(),
-            ..Floor::good(nx, ny)
-        };
-        let layout = self.draw(0, 3);
-        if layout > 0 {
-            floor.x_lines = self.beams(ny + 1);
-            floor.y_lines = self.beams(nx + 1);
-        }
-        if layout == 1 {
-            floor.x_lines[1..ny].fill((0, 0));
-            floor.y_lines[1..nx].fill((0, 0));
-        }
-        floor
-    }
-}
-
-/// No rule tells x from y, so a floor with both changed round has the same verdict, and its panels the
-/// same thicknesses.
-#[test]
-fn floors_transposed() {
-    let mut numbers = Numbers(1);
-    let mut seen = BTreeSet::new();
-    for _ in 0..400 {
-        let floor = numbers.floor();
-        let (bytes, across) = (floor.bytes(), floor.transposed().bytes());
-        let (refused, verdict) = judge(&bytes);
-        assert_eq!(refused, 0, "{floor:?}");
-        assert_eq!(judge(&across), (0, verdict), "{floor:?}");
-        for x in 0..=floor.x_spans.len() as u128 {
-            for y in 0..=floor.y_spans.len() as u128 {
-                assert_eq!(panel(&bytes, x, y), panel(&across, y, x), "{floor:?}");
-            }
-        }
-        for limit in [1, 2, 4, 8, 16, 32, 64] {
-            seen.insert((limit, verdict & limit != 0));
-        }
-    }
-    // Each of the seven, broken and not.
-    assert_eq!(seen.len(), 14);
 }

@@ -2,7 +2,7 @@
 
 use crate::hand_made::{self, ONE_BAY};
 use crate::verdict::refused;
-use reference::builder::Floor;
+use floor::Floor;
 use reference::sheet::sheet;
 use reference::table::numbers;
 

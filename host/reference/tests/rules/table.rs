@@ -1,7 +1,7 @@
 //! The table: 01's figures where they stand in it, its order, what holds of every record.
 
 use crate::hand_made::{self, ONE_BAY};
-use reference::builder::Floor;
+use floor::Floor;
 use reference::floor_file::{sizes, Sizes};
 use reference::panel::x_line_alphas;
 use reference::table::{length, numbers, place, x_record, y_record};
@@ -23,7 +23,7 @@ fn y_numbers(floor: &Floor, line: u128, span: u128) -> Numbers {
     numbers(&bytes)[place(record)].try_into().unwrap()
 }
 
-fn bays(x_span: u128, y_span: u128, cx: u128, loads: (u128, u128)) -> Floor {
+fn bays(x_span: u32, y_span: u32, cx: u32, loads: (u32, u32)) -> Floor {
     Floor {
         dead: loads.0,
         live: loads.1,
@@ -34,7 +34,7 @@ fn bays(x_span: u128, y_span: u128, cx: u128, loads: (u128, u128)) -> Floor {
     }
 }
 
-fn with_beams(floor: Floor, t: u128, beam: (u128, u128)) -> Floor {
+fn with_beams(floor: Floor, t: u32, beam: (u32, u32)) -> Floor {
     Floor {
         t,
         x_lines: vec![beam; 5],

@@ -1,7 +1,7 @@
 //! "The verdict": each limit alone broken and, "equality always passes", just not.
 
 use crate::hand_made::{self, ONE_BAY, THIN, TWO_BY_ONE};
-use reference::builder::{Floor, NO_BEAM};
+use floor::{Floor, NO_BEAM};
 use reference::refusals::refusal;
 use reference::verdict::{judge, too_unlike};
 
@@ -157,7 +157,7 @@ fn five_times_as_stiff_passes() {
 
 /// Beams of depth 400 under a slab of 200, so that h³/t³ = 8, and columns of half a span, so that
 /// k/W is as large outside, 3/(3/4 of the span), as inside: α is 160000·b over the span across.
-fn even(nx: usize, ny: usize, spans: (u128, u128), widths: (u128, u128)) -> Floor {
+fn even(nx: usize, ny: usize, spans: (u32, u32), widths: (u32, u32)) -> Floor {
     let (x_span, y_span) = spans;
     let (on_x_lines, on_y_lines) = widths;
     Floor {

@@ -1,11 +1,11 @@
 //! `slab text`: a floor file into a text.
 
 use super::{arguments, Command, Ended, Status};
-use crate::file::Floor;
 use crate::input::Input;
 use crate::judge::refusal;
 use crate::output::{self, complain};
 use crate::{say, text};
+use floor::Floor;
 use std::ffi::OsString;
 
 pub const COMMAND: Command = Command {

@@ -3,8 +3,8 @@
 //! Checks 5 to 7 come in this order, and each tells of one record, of a span with the columns, or of the beams with the slab, whatever the rest.
 
 use super::records;
-use crate::file::{Floor, Record, RECORD_BYTES};
 use crate::judge::refusal;
+use floor::{Floor, Record, NO_BEAM, RECORD_BYTES};
 
 /// Accepted, whatever the bays: the longest spans and the smallest columns, and no beams.
 fn mild(floor: &Floor) -> Floor {
@@ -14,13 +14,14 @@ fn mild(floor: &Floor) -> Floor {
         fy: 280,
         dead: 1_000,
         live: 0,
-        columns: [200, 200],
+        cx: 200,
+        cy: 200,
         sides: 0,
         x_spans: vec![12_000; floor.x_spans.len()],
         y_spans: vec![12_000; floor.y_spans.len()],
-        x_lines: vec![[0, 0]; floor.x_lines.len()],
-        y_lines: vec![[0, 0]; floor.y_lines.len()],
-        offsets: vec![[0, 0]; floor.offsets.len()],
+        x_lines: vec![NO_BEAM; floor.x_lines.len()],
+        y_lines: vec![NO_BEAM; floor.y_lines.len()],
+        offsets: vec![(0, 0); floor.offsets.len()],
     }
 }
 
@@ -51,10 +52,13 @@ pub fn out_of_range(file: &[u8]) -> Vec<String> {
 /// Every span that twice the columns exceed.
 pub fn too_short_for_columns(file: &[u8]) -> Vec<String> {
     let floor = laid_out(file);
-    let mut base = mild(&floor);
-    base.columns = floor.columns;
+    let (cx, cy) = (floor.cx, floor.cy);
+    let base = Floor {
+        cx,
+        cy,
+        ..mild(&floor)
+    };
     let spans = alone(&base, file, 6);
-    let [cx, cy] = floor.columns;
     let words = |record| format!("{}: columns {cx} {cy}", records::words(&floor, record));
     spans.iter().map(words).collect()
 }
@@ -64,8 +68,8 @@ pub fn beams(file: &[u8]) -> Vec<String> {
     let floor = laid_out(file);
     let deep = Floor {
         t: floor.t,
-        x_lines: vec![[150, 1_500]; floor.x_lines.len()],
-        y_lines: vec![[150, 1_500]; floor.y_lines.len()],
+        x_lines: vec![(150, 1_500); floor.x_lines.len()],
+        y_lines: vec![(150, 1_500); floor.y_lines.len()],
         ..mild(&floor)
     };
     let mut shallow = alone(&deep, file, 7);

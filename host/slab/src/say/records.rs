@@ -1,7 +1,7 @@
 //! One record of a floor in the words of its text.
 
-use crate::file::{Floor, Record};
 use crate::text::sides;
+use floor::{Floor, Record, NO_BEAM};
 
 /// The range of each kind's values: 01, "The floor file".
 const RANGES: [(u16, &str); 8] = [
@@ -53,9 +53,9 @@ pub fn layout(floor: &Floor) -> String {
     format!("beams on x lines {x_lines}, on y lines {y_lines}")
 }
 
-fn beamed(lines: &[[u32; 2]]) -> String {
+fn beamed(lines: &[(u32, u32)]) -> String {
     let all = lines.iter().enumerate();
-    let beamed = all.filter(|(_, beam)| **beam != [0, 0]);
+    let beamed = all.filter(|(_, beam)| **beam != NO_BEAM);
     let numbers: Vec<String> = beamed.map(|(line, _)| line.to_string()).collect();
     match numbers[..] {
         [] => "none".to_string(),

@@ -1,8 +1,8 @@
 //! A refusal in words.
 
 use super::culprits;
-use crate::file::{Record, RECORD_BYTES};
 use crate::given::Given;
+use floor::{Record, RECORD_BYTES};
 
 /// 01, "Refusal numbers, in the order tried".
 const REASONS: [(u32, &str); 7] = [

@@ -10,9 +10,9 @@ pub enum Said {
     /// Which of the forms, with its numbers if they could be read.
     Once(usize, Result<Vec<u32>, String>),
     /// Width and depth.
-    Beam(Lines, [u32; 2]),
+    Beam(Lines, (u32, u32)),
     /// Of the column on y line i and x line j: along x, along y.
-    Offset([usize; 2], [u32; 2]),
+    Offset([usize; 2], (u32, u32)),
 }
 
 /// The fault's words where the line cannot be read.
@@ -65,11 +65,11 @@ fn offset(words: &mut Words) -> Result<Said, String> {
 }
 
 /// The key, two numbers, and the end of the line.
-fn pair(key: &str, whats: [&str; 2], words: &mut Words) -> Result<[u32; 2], String> {
+fn pair(key: &str, whats: [&str; 2], words: &mut Words) -> Result<(u32, u32), String> {
     if !words.pass(key) {
         return Err(words.instead_of(&format!("`{key}`")));
     }
-    let pair = [words.number(whats[0])?, words.number(whats[1])?];
+    let pair = (words.number(whats[0])?, words.number(whats[1])?);
     words.end()?;
     Ok(pair)
 }

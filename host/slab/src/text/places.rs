@@ -7,25 +7,27 @@ use super::lines::{Lines, Way};
 pub struct Pair<P> {
     pub line: usize,
     pub place: P,
-    pub pair: [u32; 2],
+    pub pair: (u32, u32),
 }
+
+type Pairs = Vec<(u32, u32)>;
 
 /// The places of one sort: their pairs, and the line of the text that gave each.
 struct Places {
-    pairs: Vec<[u32; 2]>,
+    pairs: Pairs,
     given: Vec<Option<usize>>,
 }
 
 impl Places {
     fn new(count: usize) -> Places {
         Places {
-            pairs: vec![[0, 0]; count],
+            pairs: vec![(0, 0); count],
             given: vec![None; count],
         }
     }
 
     /// The words of the fault where the place was given before.
-    fn give(&mut self, at: usize, line: usize, pair: [u32; 2], name: &str) -> Result<(), String> {
+    fn give(&mut self, at: usize, line: usize, pair: (u32, u32), name: &str) -> Result<(), String> {
         self.pairs[at] = pair;
         match self.given[at].replace(line) {
             None => Ok(()),
@@ -42,7 +44,7 @@ pub fn beams(
     nx: usize,
     ny: usize,
     faults: &mut Vec<Fault>,
-) -> (Vec<[u32; 2]>, Vec<[u32; 2]>) {
+) -> (Pairs, Pairs) {
     let mut x_lines = Places::new(ny + 1);
     let mut y_lines = Places::new(nx + 1);
     for beam in beams {
@@ -74,7 +76,7 @@ pub fn offsets(
     nx: usize,
     ny: usize,
     faults: &mut Vec<Fault>,
-) -> Vec<[u32; 2]> {
+) -> Pairs {
     let mut columns = Places::new((nx + 1) * (ny + 1));
     for &Pair {
         line,

@@ -5,7 +5,7 @@ use super::forms::{Form, FORMS};
 use super::line::{said, Said};
 use super::lines::Lines;
 use super::places::{self, Pair};
-use crate::file::{Floor, MOST_COLUMNS};
+use floor::{Floor, MOST_COLUMNS};
 
 /// What the lines of a text say, put together.
 #[derive(Default)]
@@ -101,7 +101,8 @@ impl Draft {
             fy: steel?[0],
             dead: dead?[0],
             live: live?[0],
-            columns: columns?.try_into().ok()?,
+            cx: columns.as_ref()?[0],
+            cy: columns?[1],
             sides: sides?[0],
             x_spans,
             y_spans,

@@ -2,7 +2,7 @@
 
 use super::forms::{Numbers, FORMS};
 use super::sides;
-use crate::file::Floor;
+use floor::Floor;
 
 const HEADER: &str = "\
 # A floor, as `slab make` reads it. Lengths in mm, loads in N/m2, strengths in MPa.
@@ -40,7 +40,7 @@ fn once(floor: &Floor) -> String {
         one(floor.fy),
         one(floor.dead),
         one(floor.live),
-        floor.columns.to_vec(),
+        vec![floor.cx, floor.cy],
         one(floor.sides),
         floor.x_spans.clone(),
         floor.y_spans.clone(),
@@ -57,16 +57,16 @@ fn once(floor: &Floor) -> String {
 }
 
 /// What is not all zeros; the first of them with the note.
-fn noted(lines: impl Iterator<Item = (String, [u32; 2])>, note: &str) -> String {
-    let given = lines.filter(|(_, pair)| *pair != [0, 0]);
-    let written = given.enumerate().map(|(number, (key, [a, b]))| {
+fn noted(lines: impl Iterator<Item = (String, (u32, u32))>, note: &str) -> String {
+    let given = lines.filter(|(_, pair)| *pair != (0, 0));
+    let written = given.enumerate().map(|(number, (key, (a, b)))| {
         let note = if number == 0 { note } else { "" };
         with_note(&format!("{key} {a} {b}"), note)
     });
     written.collect()
 }
 
-fn beams(way: &str, lines: &[[u32; 2]]) -> String {
+fn beams(way: &str, lines: &[(u32, u32)]) -> String {
     let keys = lines.iter().enumerate();
     let lines = keys.map(|(number, &beam)| (format!("{way} line {number} beam"), beam));
     noted(lines, "width, depth")

@@ -1,7 +1,7 @@
 //! What `check` says of every floor, held against the independent implementation.
 
 use crate::run::slab_on;
-use reference::builder::Floor;
+use floor::Floor;
 use reference::floors::{self, Described};
 use reference::verdict::{judge, judged};
 

@@ -1,7 +1,7 @@
 //! What a refusal's page says to look at, held against the independent implementation.
 
 use crate::run::slab_on;
-use reference::builder::{with, Field, Floor};
+use floor::{with, Field, Floor};
 use reference::floor_file::{records, values_are_in_range};
 use reference::refusals::refusal;
 use reference::{cases, floors};

@@ -52,5 +52,5 @@ fn the_guide_is_true() {
         (floor.t, floor.sides, floor.x_spans.len()),
         (200, 16 + 2 * 64, 5)
     );
-    assert_eq!((floor.x_lines[0], floor.offsets[2]), ([400, 700], [250, 0]));
+    assert_eq!((floor.x_lines[0], floor.offsets[2]), ((400, 700), (250, 0)));
 }

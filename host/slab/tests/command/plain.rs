@@ -1,6 +1,6 @@
 //! A plain text, to be written otherwise or wrongly.
 
-use slab::file::Floor;
+use floor::Floor;
 use slab::text::read;
 
 /// 2 by 1 bays, so x lines 0 and 1, y lines 0 to 2. Line 10 is the last.
@@ -24,13 +24,14 @@ pub fn plain() -> Floor {
         fy: 420,
         dead: 7_200,
         live: 5_000,
-        columns: [600, 500],
+        cx: 600,
+        cy: 500,
         sides: 4 + 2 * 16,
         x_spans: vec![6_600, 7_200],
         y_spans: vec![6_000],
-        x_lines: vec![[0, 0]; 2],
-        y_lines: vec![[0, 0]; 3],
-        offsets: vec![[0, 0], [0, 0], [0, 0], [0, 0], [0, 0], [250, 30]],
+        x_lines: vec![(0, 0); 2],
+        y_lines: vec![(0, 0); 3],
+        offsets: vec![(0, 0), (0, 0), (0, 0), (0, 0), (0, 0), (250, 30)],
     }
 }
 

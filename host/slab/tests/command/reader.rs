@@ -54,7 +54,7 @@ fn sides_in_each_way() {
 fn beams_on_one_line_or_several() {
     let beams = |lines: &str| {
         let floor = floor(&with(lines));
-        let widths = |lines: Vec<[u32; 2]>| lines.iter().map(|beam| beam[0]).collect::<Vec<_>>();
+        let widths = |lines: Vec<(u32, u32)>| lines.iter().map(|beam| beam.0).collect::<Vec<_>>();
         (widths(floor.x_lines), widths(floor.y_lines))
     };
     assert_eq!(
@@ -83,6 +83,6 @@ fn beams_on_one_line_or_several() {
     );
     assert_eq!(
         floor(&with("x line 0 beam 0 700")).x_lines,
-        [[0, 700], [0, 0]]
+        [(0, 700), (0, 0)]
     );
 }

@@ -1,9 +1,9 @@
 //! From file to text and back, byte for byte, and from text to file and back.
 
+use floor::Floor;
 use reference::draw::Draw;
 use reference::refusals::refusal;
 use reference::{cases, floors};
-use slab::file::Floor;
 use slab::text::{read, write};
 
 fn assert_same(floor: &Floor, description: &str) {
@@ -50,20 +50,21 @@ fn number(draw: &mut Draw) -> u32 {
     draw.one_of(&[0, 1, any % 13_000, any % 300, any, u32::MAX])
 }
 
-fn pairs(draw: &mut Draw, count: usize) -> Vec<[u32; 2]> {
-    (0..count).map(|_| [number(draw), number(draw)]).collect()
+fn pairs(draw: &mut Draw, count: usize) -> Vec<(u32, u32)> {
+    (0..count).map(|_| (number(draw), number(draw))).collect()
 }
 
 fn drawn(draw: &mut Draw) -> Floor {
-    let nx = draw.between(0, 15) as usize;
-    let ny = draw.between(0, 15) as usize;
+    let nx = draw.between(0, 15);
+    let ny = draw.between(0, 15);
     Floor {
         t: number(draw),
         fc: number(draw),
         fy: number(draw),
         dead: number(draw),
         live: number(draw),
-        columns: [number(draw), number(draw)],
+        cx: number(draw),
+        cy: number(draw),
         sides: number(draw),
         x_spans: (0..nx).map(|_| number(draw)).collect(),
         y_spans: (0..ny).map(|_| number(draw)).collect(),
@@ -98,9 +99,9 @@ fn the_longest_row() {
     let mut floor = drawn(&mut Draw::starting_at(13));
     floor.x_spans = (0..65_535).collect();
     floor.y_spans = Vec::new();
-    floor.x_lines = vec![[7, 8]];
-    floor.y_lines = (0..65_536).map(|line| [line, 1]).collect();
-    floor.offsets = (0..65_536).map(|column| [2, column]).collect();
+    floor.x_lines = vec![(7, 8)];
+    floor.y_lines = (0..65_536).map(|line| (line, 1)).collect();
+    floor.offsets = (0..65_536).map(|column| (2, column)).collect();
     assert_eq!(Floor::of(&floor.bytes()).as_ref(), Some(&floor));
     assert_same(&floor, "65,535 by 0 bays");
 }
@@ -108,9 +109,7 @@ fn the_longest_row() {
 /// A floor of one bay each way, with one bit of one byte changed: laid out as that floor says, or not at all.
 #[test]
 fn every_bit() {
-    let floor = reference::builder::Floor::good(1, 2)
-        .with_beams_everywhere()
-        .bytes();
+    let floor = Floor::good(1, 2).with_beams_everywhere().bytes();
     for bit in 0..8 * floor.len() {
         let mut file = floor.clone();
         file[bit / 8] ^= 1 << (bit % 8);

@@ -1,7 +1,7 @@
 //! How each command ends: 0 clear or done, 1 not clear, 2 refused, 3 unusable.
 
 use crate::run::{root, scratch, slab, slab_on};
-use reference::builder::{with, Field, Floor};
+use floor::{with, Field, Floor};
 use std::fs;
 
 fn garage() -> String {

@@ -1,9 +1,8 @@
 //! Changes that are refused, for their form or for what the changed floor would be.
 
-use super::{any_index, held, KINDS};
-use crate::builder::{last_index, record, value, with, Field, NO_BEAM};
+use super::{any_index, KINDS};
 use crate::draw::Draw;
-use crate::floor_file::sizes;
+use floor::{held, last_index, record, value, with, Field, NO_BEAM};
 
 type Refused = fn(&mut Draw, &[u8]) -> Vec<u8>;
 
@@ -24,7 +23,7 @@ pub fn change(draw: &mut Draw, floor: &[u8]) -> Vec<u8> {
 }
 
 /// What the floor holds: a change that would be taken.
-fn good(draw: &mut Draw, floor: &[u8]) -> (u128, u128, Vec<u8>) {
+fn good(draw: &mut Draw, floor: &[u8]) -> (u16, u16, Vec<u8>) {
     let kind = draw.one_of(&KINDS);
     let index = any_index(draw, floor, kind);
     (kind, index, held(floor, kind, index))
@@ -34,7 +33,7 @@ fn good(draw: &mut Draw, floor: &[u8]) -> (u128, u128, Vec<u8>) {
 fn wrong_length(draw: &mut Draw, floor: &[u8]) -> Vec<u8> {
     let (_, _, good) = good(draw, floor);
     let mut bytes = good.repeat(3);
-    let length = draw.between(0, 40) as usize;
+    let length = draw.between(0, 40);
     bytes.truncate(if length == 16 { 15 } else { length });
     bytes
 }
@@ -51,7 +50,7 @@ fn wrong_kind(draw: &mut Draw, floor: &[u8]) -> Vec<u8> {
 /// 9: "has an index the floor lacks"
 fn index_too_high(draw: &mut Draw, floor: &[u8]) -> Vec<u8> {
     let (kind, index, good) = good(draw, floor);
-    let high = [last_index(floor, kind) + 1, 256, 65_535];
+    let high = [u32::from(last_index(floor, kind)) + 1, 256, 65_535];
     with(&good, kind, index, Field::Index, draw.one_of(&high))
 }
 
@@ -112,7 +111,7 @@ fn wrong_beam(draw: &mut Draw, floor: &[u8]) -> Vec<u8> {
         value(floor, kind, index, Field::A),
         value(floor, kind, index, Field::B),
     );
-    let t = sizes(floor).t;
+    let t = value(floor, 1, 0, Field::C);
     let values = if (width, depth) == NO_BEAM {
         [300, draw.one_of(&[600, t.max(91)]), 0]
     } else {

@@ -1,36 +1,11 @@
 //! A floor's numbers, and the floor file's records of them (01, "The floor file").
 
-pub const RECORD_BYTES: usize = 16;
+use crate::record::{Record, RECORD_BYTES};
 
 /// A record's index has two bytes, and no kind has more records than there are columns.
 pub const MOST_COLUMNS: usize = 1 << 16;
 
-pub struct Record {
-    pub kind: u16,
-    pub index: u16,
-    /// a, b and c.
-    pub fields: [u32; 3],
-}
-
-impl Record {
-    pub fn read(bytes: &[u8; RECORD_BYTES]) -> Record {
-        let half = |at: usize| u16::from_le_bytes([bytes[at], bytes[at + 1]]);
-        let whole = |at: usize| u32::from(half(at)) | u32::from(half(at + 2)) << 16;
-        Record {
-            kind: half(0),
-            index: half(2),
-            fields: [whole(4), whole(8), whole(12)],
-        }
-    }
-
-    /// Those of a file, as they stand in it.
-    pub fn all(file: &[u8]) -> Vec<Record> {
-        let records = file.chunks_exact(RECORD_BYTES);
-        records
-            .map(|record| Record::read(record.try_into().expect("so many bytes")))
-            .collect()
-    }
-}
+pub const NO_BEAM: (u32, u32) = (0, 0);
 
 /// What a floor file says, in range or not. The bays are the spans.
 #[derive(Clone, Debug, PartialEq, Eq)]
@@ -40,17 +15,18 @@ pub struct Floor {
     pub fy: u32,
     pub dead: u32,
     pub live: u32,
-    /// Along x, along y.
-    pub columns: [u32; 2],
+    /// The columns' size along x, along y.
+    pub cx: u32,
+    pub cy: u32,
     /// The sum of the four sides' codes.
     pub sides: u32,
     pub x_spans: Vec<u32>,
     pub y_spans: Vec<u32>,
-    /// Width and depth of the beam on each x line; zeros for no beam.
-    pub x_lines: Vec<[u32; 2]>,
-    pub y_lines: Vec<[u32; 2]>,
+    /// Width and depth of the beam on each x line; `NO_BEAM` for none.
+    pub x_lines: Vec<(u32, u32)>,
+    pub y_lines: Vec<(u32, u32)>,
     /// Along x and along y, for column j(nx+1)+i on y line i and x line j.
-    pub offsets: Vec<[u32; 2]>,
+    pub offsets: Vec<(u32, u32)>,
 }
 
 /// Of each kind, how many of a, b and c 01 lists.
@@ -59,23 +35,25 @@ const LISTED: [usize; 10] = [0, 3, 2, 2, 3, 1, 1, 2, 2, 2];
 impl Floor {
     /// The file. There are at most `MOST_COLUMNS` offsets.
     pub fn bytes(&self) -> Vec<u8> {
-        let [cx, cy] = self.columns;
         let bays = |spans: &[u32]| u32::try_from(spans.len()).expect("an index of two bytes");
-        let mut file = Vec::new();
-        put(
-            &mut file,
-            1,
-            &[[bays(&self.x_spans), bays(&self.y_spans), self.t]],
-        );
-        put(&mut file, 2, &[[self.fc, self.fy]]);
-        put(&mut file, 3, &[[self.dead, self.live]]);
-        put(&mut file, 4, &[[cx, cy, self.sides]]);
-        put(&mut file, 5, &singles(&self.x_spans));
-        put(&mut file, 6, &singles(&self.y_spans));
-        put(&mut file, 7, &self.x_lines);
-        put(&mut file, 8, &self.y_lines);
-        put(&mut file, 9, &self.offsets);
-        file
+        let sizes = [bays(&self.x_spans), bays(&self.y_spans), self.t];
+        let singles = |numbers: &[u32]| numbers.iter().map(|&number| [number, 0, 0]).collect();
+        let pairs = |pairs: &[(u32, u32)]| pairs.iter().map(|&(a, b)| [a, b, 0]).collect();
+        let kinds: [Vec<[u32; 3]>; 9] = [
+            vec![sizes],
+            vec![[self.fc, self.fy, 0]],
+            vec![[self.dead, self.live, 0]],
+            vec![[self.cx, self.cy, self.sides]],
+            singles(&self.x_spans),
+            singles(&self.y_spans),
+            pairs(&self.x_lines),
+            pairs(&self.y_lines),
+            pairs(&self.offsets),
+        ];
+        let kinds = (1..).zip(kinds);
+        kinds
+            .flat_map(|(kind, records)| of_kind(kind, records))
+            .collect()
     }
 
     /// What the file says, if it is laid out as one: the records that its sizes ask for, in their order, and nothing where 01 lists nothing.
@@ -94,7 +72,8 @@ impl Floor {
             fy,
             dead,
             live,
-            columns: [cx, cy],
+            cx,
+            cy,
             sides,
             x_spans: x_spans.into_iter().map(|[span, ..]| span).collect(),
             y_spans: y_spans.into_iter().map(|[span, ..]| span).collect(),
@@ -106,24 +85,23 @@ impl Floor {
     }
 }
 
-fn singles(numbers: &[u32]) -> Vec<[u32; 1]> {
-    numbers.iter().map(|&number| [number]).collect()
+fn pairs(records: Vec<[u32; 3]>) -> Vec<(u32, u32)> {
+    records.into_iter().map(|[a, b, _]| (a, b)).collect()
 }
 
-fn pairs(records: Vec<[u32; 3]>) -> Vec<[u32; 2]> {
-    records.into_iter().map(|[a, b, _]| [a, b]).collect()
-}
-
-/// All records of a kind.
-fn put<const N: usize>(file: &mut Vec<u8>, kind: u16, records: &[[u32; N]]) {
-    for (index, numbers) in records.iter().enumerate() {
+/// The bytes of all records of a kind.
+fn of_kind(kind: u16, records: Vec<[u32; 3]>) -> Vec<u8> {
+    let mut bytes = Vec::new();
+    for (index, fields) in records.into_iter().enumerate() {
         let index = u16::try_from(index).expect("an index of two bytes");
-        let mut fields = [0; 3];
-        fields[..N].copy_from_slice(numbers);
-        file.extend(kind.to_le_bytes());
-        file.extend(index.to_le_bytes());
-        file.extend(fields.map(u32::to_le_bytes).concat());
+        let record = Record {
+            kind,
+            index,
+            fields,
+        };
+        bytes.extend(record.bytes());
     }
+    bytes
 }
 
 /// What is left of a file.
@@ -142,7 +120,7 @@ impl Records<'_> {
 
     /// The next record, if it is this one and has zeros where nothing is listed.
     fn next(&mut self, kind: u16, index: u64) -> Option<[u32; 3]> {
-        let (bytes, rest) = self.rest.split_first_chunk()?;
+        let (bytes, rest) = self.rest.split_at_checked(RECORD_BYTES)?;
         self.rest = rest;
         let record = Record::read(bytes);
         let unlisted = &record.fields[LISTED[usize::from(kind)]..];
