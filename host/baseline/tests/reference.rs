@@ -1,13 +1,13 @@
 //! The baseline held to the reference: every answer, and all that is left in floor and table.
 
 use baseline::Answer;
-use reference::draw::Draw;
+use cases::draw::Draw;
+use cases::floors::drawn::{self, Wanted};
+use cases::floors::{self, LAYOUTS};
+use cases::queries;
+use cases::runs::{self, play, Played, Run};
 use reference::floor_file::RECORD_BYTES;
-use reference::floors::drawn::{self, Wanted};
-use reference::floors::{self, LAYOUTS};
 use reference::panel;
-use reference::queries;
-use reference::runs::{self, play, Played, Run};
 use reference::steel;
 
 fn answer(given: Answer) -> (u128, u128) {

@@ -3,7 +3,7 @@
 use crate::job::Job;
 use crate::lent::{Lent, Number};
 use crate::tally::Tally;
-use reference::draw::Draw;
+use cases::draw::Draw;
 
 pub struct Case<'a> {
     pub job: &'a Job,

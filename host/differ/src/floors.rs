@@ -12,13 +12,13 @@ use crate::case::Case;
 use crate::panels;
 use crate::same::{hex, same_answer};
 use crate::tally::{Counts, Opened, Tally};
-use reference::draw::Draw;
+use cases::draw::Draw;
+use cases::floors::LAYOUTS;
+use cases::runs::tables::any_numbers;
 use reference::floor_file::{records_of_kind, sizes, Sizes};
-use reference::floors::LAYOUTS;
 use reference::layout::layout;
 use reference::opening::open;
 use reference::refusals::{refusal, SUCCESS};
-use reference::runs::tables::any_numbers;
 use reference::table::length;
 
 /// Floors in a case: as drawn, at the edge of a limit, past it, damaged.

@@ -1,8 +1,8 @@
 //! What the cases of one run of comparisons have in common.
 
 use crate::lent::Room;
+use cases::draw::Draw;
 use gandhrumil::{Answer, Query};
-use reference::draw::Draw;
 
 /// The four calls, which a test may put wrong ones in place of.
 #[derive(Clone, Copy)]

@@ -1,6 +1,6 @@
 //! Buffers as they are lent to the library: at any address, between guards.
 
-use reference::draw::Draw;
+use cases::draw::Draw;
 use std::fmt::Debug;
 use std::hint::black_box;
 use std::ops::Range;

@@ -3,7 +3,7 @@
 use crate::case::Case;
 use crate::lent::Lent;
 use crate::same::same_answer;
-use reference::draw::Draw;
+use cases::draw::Draw;
 use reference::floor_file::{sizes, Sizes};
 use reference::panel::{panel, panels};
 use reference::refusals::{refusal, SUCCESS};

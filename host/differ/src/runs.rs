@@ -6,11 +6,11 @@ mod walk;
 use crate::case::Case;
 use crate::floors::{damaged, floor, lent_table};
 use crate::same::hex;
+use cases::draw::Draw;
+use cases::runs::Run;
 use floor::Floor;
 use held::Held;
-use reference::draw::Draw;
 use reference::refusals::SUCCESS;
-use reference::runs::Run;
 use reference::verdict::{judge, REFUSED};
 use walk::Walk;
 

@@ -2,10 +2,10 @@
 
 use crate::case::Case;
 use crate::same::same_answer;
-use reference::draw::Draw;
-use reference::queries::drawn::{any, narrow, real, shallow, stray};
-use reference::queries::steps::strip_and_area;
-use reference::queries::strength::greatest_moment;
+use cases::draw::Draw;
+use cases::queries::drawn::{any, narrow, real, shallow, stray};
+use cases::queries::steps::strip_and_area;
+use cases::queries::strength::greatest_moment;
 use reference::steel::{answer, Query};
 
 /// Queries in a case.

@@ -1,7 +1,7 @@
 //! What a comparison should have met and has not: a generator that decays is noticed.
 
 use crate::tally::{Counts, Opened, Step, Tally};
-use reference::runs::changes::KINDS;
+use cases::runs::changes::KINDS;
 use std::collections::BTreeSet;
 
 /// Each that is not there, in words.

@@ -1,12 +1,12 @@
-//! What the reference describes one by one, held against the library too.
+//! The inputs that are described one by one: the library held against the reference on each.
 
+use cases::draw::Draw;
+use cases::runs::tables::any_numbers;
+use cases::runs::Run;
 use differ::case::Case;
 use differ::job::Job;
 use differ::tally::Tally;
 use differ::{floors, runs, steel};
-use reference::draw::Draw;
-use reference::runs::tables::any_numbers;
-use reference::runs::Run;
 
 /// Compares each with a description.
 fn compare_all<T>(
@@ -31,8 +31,8 @@ fn compare_all<T>(
 /// Up to 1,000,016 bytes.
 #[test]
 fn floors_and_inputs_longer_than_any_floor() {
-    let mut described = reference::floors::all();
-    described.extend(reference::floors::long::inputs());
+    let mut described = cases::floors::all();
+    described.extend(cases::floors::long::inputs());
     let tally = compare_all(
         &described,
         |floor| &floor.description,
@@ -44,7 +44,7 @@ fn floors_and_inputs_longer_than_any_floor() {
 /// Each floor file is opened, with room enough for any table, then changed where a change comes with it.
 #[test]
 fn cases_of_every_refusal() {
-    let described = reference::cases::all();
+    let described = cases::refusals::all();
     let tally = compare_all(
         &described,
         |listed| &listed.description,
@@ -67,7 +67,7 @@ fn cases_of_every_refusal() {
 
 #[test]
 fn changes() {
-    let described = reference::runs::all();
+    let described = cases::runs::all();
     let tally = compare_all(&described, |run| &run.description, runs::replay);
     let changes: usize = described.iter().map(|run| run.changes.len()).sum();
     assert_eq!(tally.changes.total(), changes as u64);
@@ -75,7 +75,7 @@ fn changes() {
 
 #[test]
 fn steel_queries() {
-    let described = reference::queries::all();
+    let described = cases::queries::all();
     let tally = compare_all(
         &described,
         |given| &given.description,

@@ -4,23 +4,16 @@
 //! and every number is a `u128`, or an `i128` where it may fall below 0, far wider than any value of
 //! 01, so no rule needs a word on overflow.
 
-pub mod cases;
 pub mod change;
-pub mod draw;
-pub mod figures;
 pub mod floor_file;
-pub mod floors;
 pub mod frame;
-pub mod garage;
 pub mod held;
 pub mod layout;
 pub mod moments;
 pub mod named;
 pub mod opening;
 pub mod panel;
-pub mod queries;
 pub mod refusals;
-pub mod runs;
 pub mod sheet;
 pub mod span;
 pub mod steel;

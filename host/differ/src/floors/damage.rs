@@ -1,10 +1,10 @@
 //! What befalls a floor's bytes.
 
+use cases::draw::Draw;
+use cases::floors::long::garbage;
+use cases::refusals::{tried_values, LISTED};
+use cases::runs::changes::any_index;
 use floor::{last_index, value, with, Field, Floor, RECORD_BYTES};
-use reference::cases::{tried_values, LISTED};
-use reference::draw::Draw;
-use reference::floors::long::garbage;
-use reference::runs::changes::any_index;
 
 type Damage = fn(&mut Draw, &[u8]) -> Vec<u8>;
 

@@ -1,11 +1,11 @@
 //! Floors as they are drawn: clear ones wherever there are bays enough.
 
+use cases::draw::Draw;
+use cases::floors::drawn::{self, Wanted};
+use cases::floors::LAYOUTS;
+use cases::runs::clear::any_sides;
 use floor::Floor;
-use reference::draw::Draw;
-use reference::floors::drawn::{self, Wanted};
-use reference::floors::LAYOUTS;
 use reference::layout::Layout;
-use reference::runs::clear::any_sides;
 
 /// Mostly few bays, for what is worked out by the reference grows with their square.
 fn bays(draw: &mut Draw) -> (usize, usize) {

@@ -1,8 +1,8 @@
 //! A drawn floor at the edge of one limit of the method, and just past it: "equality always passes".
 
+use cases::draw::Draw;
+use cases::floors::drawn::no_thicker_than_asked;
 use floor::{Floor, NO_BEAM};
-use reference::draw::Draw;
-use reference::floors::drawn::no_thicker_than_asked;
 use reference::verdict::directions_are_too_unlike;
 
 /// The floor at the edge and past it, `None` where the floor cannot be brought there.

@@ -3,7 +3,7 @@
 use super::drawn::of_bays;
 use super::spoilt;
 use crate::case::Case;
-use reference::floors::LAYOUTS;
+use cases::floors::LAYOUTS;
 
 /// The lowest bit, the highest, all of them, and at last any.
 const WAYS: [Option<u8>; 4] = [Some(0x01), Some(0x80), Some(0xff), None];

@@ -1,10 +1,10 @@
 //! Which change comes next.
 
+use cases::draw::Draw;
+use cases::refusals::{tried_values, LISTED};
+use cases::runs::changes::taken::{clear_change_of, far, near};
+use cases::runs::changes::{any_index, refused, KINDS};
 use floor::{held, with, Record, RECORD_BYTES};
-use reference::cases::{tried_values, LISTED};
-use reference::draw::Draw;
-use reference::runs::changes::taken::{clear_change_of, far, near};
-use reference::runs::changes::{any_index, refused, KINDS};
 
 /// Keeps a clear floor clear for the most part, and brings a broken one back step by step.
 #[derive(Default)]

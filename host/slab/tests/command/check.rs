@@ -1,8 +1,8 @@
 //! What `check` says of every floor, held against the independent implementation.
 
 use crate::run::slab_on;
+use cases::floors::{self, Described};
 use floor::Floor;
-use reference::floors::{self, Described};
 use reference::verdict::{judge, judged};
 
 fn said(file: &[u8]) -> (i32, String) {

@@ -1,10 +1,10 @@
 //! What a refusal's page says to look at, held against the independent implementation.
 
 use crate::run::slab_on;
+use cases::{floors, refusals};
 use floor::{with, Field, Floor};
 use reference::floor_file::{records, values_are_in_range};
 use reference::refusals::refusal;
-use reference::{cases, floors};
 
 fn looked_at(file: &[u8]) -> Vec<String> {
     let ran = slab_on(&["check", "-"], file);
@@ -19,7 +19,7 @@ fn looked_at(file: &[u8]) -> Vec<String> {
 #[test]
 fn every_value_out_of_range() {
     let floors = floors::all().into_iter().map(|floor| floor.bytes);
-    let cases = cases::all().into_iter().map(|case| case.floor);
+    let cases = refusals::all().into_iter().map(|case| case.floor);
     let refused = floors.chain(cases).filter(|file| refusal(file) == 5);
     let mut tried = 0;
     for file in refused {

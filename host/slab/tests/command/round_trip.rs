@@ -1,9 +1,9 @@
 //! From file to text and back, byte for byte, and from text to file and back.
 
+use cases::draw::Draw;
+use cases::{floors, refusals};
 use floor::Floor;
-use reference::draw::Draw;
 use reference::refusals::refusal;
-use reference::{cases, floors};
 use slab::text::{read, write};
 
 fn assert_same(floor: &Floor, description: &str) {
@@ -16,7 +16,7 @@ fn assert_same(floor: &Floor, description: &str) {
 fn files() -> Vec<(String, Vec<u8>)> {
     let floors = floors::all().into_iter().chain(floors::long::inputs());
     let floors = floors.map(|floor| (floor.description, floor.bytes));
-    let cases = cases::all().into_iter();
+    let cases = refusals::all().into_iter();
     let cases = cases.map(|case| (case.description, case.floor));
     floors.chain(cases).collect()
 }

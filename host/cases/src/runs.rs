@@ -1,0 +1,49 @@
+//! Runs: a floor with a lent table, opened or not, then changed again and again.
+
+pub mod changes;
+pub mod clear;
+mod quiet;
+mod refused;
+mod small;
+pub mod tables;
+
+use reference::{held, opening};
+
+#[derive(Clone, Debug)]
+pub struct Run {
+    pub description: String,
+    /// Whether the floor is opened with the table before it is changed.
+    pub opens: bool,
+    pub floor: Vec<u8>,
+    pub table: Vec<u32>,
+    pub changes: Vec<Vec<u8>>,
+}
+
+/// The runs to hold another program against.
+pub fn all() -> Vec<Run> {
+    [clear::runs(), quiet::runs(), small::runs(), refused::runs()].concat()
+}
+
+/// What a run leaves.
+#[derive(Clone, Debug, PartialEq, Eq)]
+pub struct Played {
+    /// Refusal and verdict of the opening.
+    pub opening: Option<(u128, u128)>,
+    /// Refusal and verdict of each change.
+    pub changes: Vec<(u128, u128)>,
+    pub floor: Vec<u8>,
+    pub table: Vec<u32>,
+}
+
+pub fn play(run: &Run) -> Played {
+    let (mut floor, mut table) = (run.floor.clone(), run.table.clone());
+    let opening = run.opens.then(|| opening::open(&floor, &mut table));
+    let changes = run.changes.iter();
+    let changes = changes.map(|change| held::change(&mut floor, &mut table, change));
+    Played {
+        opening,
+        changes: changes.collect(),
+        floor,
+        table,
+    }
+}
