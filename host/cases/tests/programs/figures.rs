@@ -1,7 +1,7 @@
 //! The figures that are run: the program's lines, the reference's, and the rows of docs/FIGURES.md.
 
-use crate::program::{first_difference, printed};
 use cases::figures::{stdin, stdout};
+use cases::program::{first_difference, printed};
 use std::collections::BTreeMap;
 use std::fs;
 use std::path::Path;

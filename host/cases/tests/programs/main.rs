@@ -2,4 +2,3 @@
 
 mod figures;
 mod print;
-mod program;

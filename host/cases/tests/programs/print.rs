@@ -1,7 +1,7 @@
 //! The printing program, held against the sheet of every described floor.
 
-use crate::program::{first_difference, printed};
 use cases::floors::{self, Described};
+use cases::program::{first_difference, printed};
 use reference::sheet::sheet;
 use reference::verdict::judge;
 

@@ -99,11 +99,12 @@ fn a_record_is_16_bytes_little_endian() {
 }
 
 #[test]
-fn the_builder_writes_the_order_of_01() {
+fn a_floor_is_written_and_read_in_the_order_of_01() {
     let mut one_bay = Floor::good(1, 1);
     (one_bay.cx, one_bay.cy) = (400, 400);
     (one_bay.x_spans, one_bay.y_spans) = (vec![4_000], vec![4_000]);
     assert_eq!(one_bay.bytes(), floor(ONE_BAY));
+    assert_eq!(Floor::of(&floor(ONE_BAY)), Some(one_bay));
 
     let mut two_by_one = Floor::good(2, 1);
     two_by_one.t = 180;
@@ -116,4 +117,5 @@ fn the_builder_writes_the_order_of_01() {
     two_by_one.y_lines = vec![(350, 700), (0, 0), (360, 710)];
     two_by_one.offsets = vec![(1, 10), (2, 20), (3, 30), (4, 40), (5, 50), (6, 60)];
     assert_eq!(two_by_one.bytes(), floor(TWO_BY_ONE));
+    assert_eq!(Floor::of(&floor(TWO_BY_ONE)), Some(two_by_one));
 }

@@ -66,3 +66,25 @@ fn differing_words(expected: Option<&str>, printed: Option<&str>) -> String {
         }
     }
 }
+
+#[cfg(test)]
+mod tests {
+    use super::first_difference;
+
+    /// Right lines, then lines that are wrong, missing, cut short or too many.
+    #[test]
+    fn a_wrong_line_is_found() {
+        let found = |printed| first_difference("0 484\n12 0\n", printed).unwrap_or_default();
+        assert_eq!(found("0 484\n12 0\n"), "");
+        for (printed, words) in [
+            ("", "line 1, word 1: "),
+            ("0 485\n12 0\n", "line 1, word 2: "),
+            ("0 484\n0 0\n", "line 2, word 1: "),
+            ("0 484\n12\n", "line 2, word 2: "),
+            ("0 484\n12 0", "line 3, which only one of the two has"),
+            ("0 484\n12 0\n\n", "line 4, which only one of the two has"),
+        ] {
+            assert!(found(printed).starts_with(words), "{}", found(printed));
+        }
+    }
+}
