@@ -2,7 +2,7 @@
 
 use baseline::Answer;
 use cases::draw::Draw;
-use cases::floors::drawn::{self, Wanted};
+use cases::floors::drawn::{self, any_sides, Wanted};
 use cases::floors::{self, LAYOUTS};
 use cases::queries;
 use cases::runs::{self, play, Played, Run};
@@ -85,7 +85,7 @@ fn any_floor(draw: &mut Draw) -> Vec<u8> {
         nx: draw.between(1, 6),
         ny: draw.between(1, 6),
         layout,
-        sides: (0..4).fold(0, |sum, _| 4 * sum + draw.between(0, 2)),
+        sides: any_sides(draw),
     };
     drawn::floor(draw, wanted).bytes()
 }

@@ -1,7 +1,7 @@
 //! Runs: a floor with a lent table, opened or not, then changed again and again.
 
 pub mod changes;
-pub mod clear;
+mod clear;
 mod quiet;
 mod refused;
 mod small;

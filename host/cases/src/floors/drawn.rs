@@ -15,6 +15,11 @@ pub struct Wanted {
     pub sides: u32,
 }
 
+/// Of each side columns, unrestrained or fully restrained.
+pub fn any_sides(draw: &mut Draw) -> u32 {
+    (0..4).fold(0, |sum, _| 4 * sum + draw.between(0, 2))
+}
+
 /// Draws until no limit is broken.
 pub fn clear(draw: &mut Draw, wanted: Wanted) -> Floor {
     loop {

@@ -9,6 +9,7 @@ pub fn cases() -> Vec<Case> {
         lengths(),
         first_record(),
         record_counts(),
+        other_bays_said(),
         kinds(),
         indices(),
         orders(),
@@ -82,7 +83,7 @@ fn record_counts() -> Vec<Case> {
     let base = Floor::good(3, 2).bytes();
     let last = base.len() - RECORD_BYTES;
     let without_an_x_span = [&base[..6 * RECORD_BYTES], &base[7 * RECORD_BYTES..]].concat();
-    let mut cases = vec![
+    vec![
         Case::floor("3x2 less its last record", base[..last].to_vec()),
         Case::floor("3x2 less an x span", without_an_x_span),
         Case::floor(
@@ -101,9 +102,13 @@ fn record_counts() -> Vec<Case> {
             "1x1 and a record of kind 10",
             [Floor::good(1, 1).bytes(), record(10, 0, [0, 0, 0])].concat(),
         ),
-    ];
-    // The count is (nx+3)(ny+3) − 2: of 3 by 3 bays and 1 by 6 it is the same, and of nx by ny and
-    // ny by nx it always is.
+    ]
+}
+
+/// The count is (nx+3)(ny+3) − 2: of 3 by 3 bays and 1 by 6 it is the same, and of nx by ny and ny by
+/// nx it always is.
+fn other_bays_said() -> Vec<Case> {
+    let mut cases = Vec::new();
     for (nx, ny, said) in [
         (3, 2, [2, 3]),
         (2, 1, [1, 2]),

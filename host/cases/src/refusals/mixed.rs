@@ -2,6 +2,7 @@
 
 use super::Case;
 use crate::draw::Draw;
+use crate::floors::drawn::any_sides;
 use floor::{record, Floor};
 
 fn floor(draw: &mut Draw) -> Floor {
@@ -16,7 +17,7 @@ fn floor(draw: &mut Draw) -> Floor {
     floor.live = draw.between(0, 50_000);
     floor.cx = 10 * draw.between(20, 50);
     floor.cy = 10 * draw.between(20, 50);
-    floor.sides = (0..4).fold(0, |sides, _| 4 * sides + draw.between(0, 2));
+    floor.sides = any_sides(draw);
     for span in floor.x_spans.iter_mut().chain(&mut floor.y_spans) {
         *span = 20 * draw.between(50, 600);
     }

@@ -4,7 +4,7 @@ use super::changes::{changes, Changing};
 use super::tables::{table, Held};
 use super::Run;
 use crate::draw::Draw;
-use crate::floors::drawn::{self, Wanted};
+use crate::floors::drawn::{self, any_sides, Wanted};
 use crate::floors::LAYOUTS;
 use floor::Floor;
 use reference::layout::Layout;
@@ -46,10 +46,6 @@ const LARGE: [(usize, usize); 9] = [
 ];
 
 const HELD: [Held; 4] = [Held::Right, Held::SomeWrong, Held::AllWrong, Held::Zeros];
-
-pub fn any_sides(draw: &mut Draw) -> u32 {
-    (0..4).fold(0, |sum, _| 4 * sum + draw.between(0, 2))
-}
 
 /// A clear floor with any sides, its slab often such that there is room for longer spans.
 pub fn floor(draw: &mut Draw, nx: usize, ny: usize, layout: Layout) -> Vec<u8> {

@@ -98,8 +98,9 @@ fn refusal_4() {
     ]);
 }
 
+/// "some value is out of range", of what stands once
 #[test]
-fn refusal_5() {
+fn refusal_5_of_the_whole_floor() {
     assert_refusals(&[
         ("fc 19", 5),
         ("fc 20", 0),
@@ -132,6 +133,14 @@ fn refusal_5() {
         ("sides 171", 5),
         ("sides 192", 5),
         ("sides 256", 5),
+        ("sides 16777216", 5),
+    ]);
+}
+
+/// "some value is out of range, or one beam size alone is 0"
+#[test]
+fn refusal_5_of_spans_beams_and_offsets() {
+    assert_refusals(&[
         ("x span 980", 5),
         ("x span 1000", 0),
         ("x span 1010", 5),
@@ -148,7 +157,6 @@ fn refusal_5() {
         ("offset along x 12000", 0),
         ("offset along y 12001", 5),
         ("x span 69536", 5),
-        ("sides 16777216", 5),
         ("offset along x 12040 in the last, 11", 5),
         ("12x12 last offset 12001 along y", 5),
     ]);

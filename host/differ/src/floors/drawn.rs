@@ -1,9 +1,8 @@
 //! Floors as they are drawn: clear ones wherever there are bays enough.
 
 use cases::draw::Draw;
-use cases::floors::drawn::{self, Wanted};
+use cases::floors::drawn::{self, any_sides, Wanted};
 use cases::floors::LAYOUTS;
-use cases::runs::clear::any_sides;
 use floor::Floor;
 use reference::layout::Layout;
 
