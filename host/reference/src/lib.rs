@@ -2,7 +2,8 @@
 //!
 //! Speed and memory count for nothing here. Each rule stands under the sentence of 01 it follows,
 //! and every number is a `u128`, or an `i128` where it may fall below 0, far wider than any value of
-//! 01, so no rule needs a word on overflow.
+//! 01, so no rule needs a word on overflow. The inputs that programs are held against it on are in
+//! `host/cases`.
 
 pub mod change;
 pub mod floor_file;
