@@ -1,22 +1,23 @@
--- The two ways that a sheet ends: after its first line, or with a line for each record of the table that opening filled.
+-- The two ways that a sheet begins: with its first line alone, or with the records of the table that opening filled to follow.
 -- Assumes nothing.
-use Prim.Native.Nat.{ℕ}
-use mathlib.Core.List.{List, [], _∷_, append-nil}
+use Prim.Native.Nat.{ℕ, _+_, _≤_, zero-le}
+use mathlib.Core.List.{List, [], _∷_}
 use mathlib.Core.Path.{_≡_, sym, ap, _∙_}
 use native.Mathlib.Omega.{arith}
-use lib.ListN.{length}
+use lib.ListN.{length, take, length-append}
 use borrow.Author.Tests.{ne-eqb, eq-eqb}
 use Rattle.numbers.proofs.Tests.{says-eq, by-test}
 use Rattle.sheets.specs.Text.{line, lines}
 use Rattle.sheets.specs.Wrote.{Wrote}
-use Rattle.sheets.proofs.Writing.{wrote-as, wrote-then}
+use Rattle.sheets.proofs.Writing.{wrote-as, wrote-one}
 use Rattle.verdict.specs.declared.Answer.{Answer}
 use Rattle.verdict.specs.Limits.{verdict}
 use Rattle.tables.specs.Width.{recordWidth}
 use Rattle.tables.specs.Places.{recordCount}
 use Rattle.moments.specs.Tables.{fresh}
 use Rattle.moments.specs.Opening.{openRefusal, answered, Opened}
-use Rattle.print.specs.Sheet.{answerOf, sheetText}
+use Rattle.print.specs.Sheet.{answerOf, firstLine, recordLines, sheetText, Began}
+use Rattle.print.specs.declared.Start.{Start}
 
 -- a refused floor is answered 255
 not-refused : (number v : ℕ) → answered number v .value ≡ 0 → number ≡ 0
@@ -25,18 +26,36 @@ not-refused number v =
 
 module _ {f t : List ℕ} {a : Answer} {u old mid : List ℕ} {m : ℕ} (o : Opened f t a u)
     (w : Wrote old 0 (line (a .refusal ∷ a .value ∷ [])) mid m) where
-  first-line : line (a .refusal ∷ a .value ∷ []) ≡ line (answerOf f t .refusal ∷ answerOf f t .value ∷ [])
-  first-line = rw (o .answer)
+  first : Wrote old 0 (firstLine f t) mid m
+  first = wrote-as (rw (o .answer)) w
 
-  pub ends-there : (a .value ≡ 0 → ⊥) → Wrote old 0 (sheetText f t) mid m
-  unfolding sheetText
-  ends-there ne =
-      wrote-as (sym (rw (ne-eqb (answerOf f t .value) 0 (λ z. ne (ap (λ (x : Answer). x .value) (o .answer) ∙ z))) (append-nil _) ∙ sym first-line)) w
+  value-of : a .value ≡ answerOf f t .value
+  value-of = ap (λ (x : Answer). x .value) (o .answer)
+
+  pub ends-there : (a .value ≡ 0 → ⊥) → Began f t old (record { end = m; records = 0 }) u mid
+  ends-there ne = record {
+    first = first;
+    rest = sym (rw (ne-eqb (answerOf f t .value) 0 (λ z. ne (value-of ∙ z))));
+    most = zero-le;
+  }
 
   filled : a .value ≡ 0 → u ≡ fresh f t
-  filled z = o .table ∙ rw (not-refused (openRefusal f (length t)) (verdict f) (sym (ap (λ (x : Answer). x .value) (o .answer)) ∙ z))
+  filled z = o .table ∙ rw (not-refused (openRefusal f (length t)) (verdict f) (sym value-of ∙ z))
 
-  pub goes-on : {new : List ℕ} {n r : ℕ} → a .value ≡ 0 → n ≡ recordCount f → Wrote mid m (lines recordWidth n u) new r → Wrote old 0 (sheetText f t) new r
-  unfolding sheetText
-  goes-on z e p =
-      wrote-as (rw (eq-eqb (answerOf f t .value) 0 (sym (ap (λ (x : Answer). x .value) (o .answer)) ∙ z), ← first-line, e, filled z)) (wrote-then w p)
+  pub goes-on : {n : ℕ} → a .value ≡ 0 → n ≡ recordCount f → n ≤ 312 → Began f t old (record { end = m; records = n }) u mid
+  goes-on z e few = record {
+    first = first;
+    rest = rw (eq-eqb (answerOf f t .value) 0 (sym value-of ∙ z), e, filled z);
+    most = few;
+  }
+
+-- the bytes of the first line, and of the records that follow
+pub whole : {f t out t′ out′ : List ℕ} {r : Start} {x : ℕ} → Began f t out r t′ out′ → x ≡ length (lines recordWidth (r .records) t′) →
+    r .end + x ≡ length (sheetText f t)
+unfolding sheetText
+whole {f} {t} b e = omega (arith, b .first .ends, e, ap length (b .rest), length-append (firstLine f t) (recordLines f t))
+
+-- no second place where the first line ends, no second line, and no second lines after it
+pub began-one : {f t out t′ out′ u′ v′ : List ℕ} {r s : Start} → Began f t out r t′ out′ → Began f t out s u′ v′ →
+    (r .end ≡ s .end) × (take (r .end) out′ ≡ take (s .end) v′) × (lines recordWidth (r .records) t′ ≡ lines recordWidth (s .records) u′)
+began-one b d = (wrote-one (b .first) (d .first) .0, wrote-one (b .first) (d .first) .1, b .rest ∙ sym (d .rest))

@@ -1,30 +1,41 @@
 -- "It reads a floor from standard input and prints refusal number, a space, verdict; at verdict 0 then one line per record, sixteen numbers,
 -- spaces between."
 -- Assumes nothing.
-use Prim.Native.Nat.{ℕ}
+use Prim.Native.Nat.{ℕ, _*_, _≤_}
 use mathlib.Core.Bool.{cond}
 use mathlib.Core.List.{List, [], _∷_, _++_}
 use mathlib.Core.Path.{_≡_}
 use lib.Dec.{eqb}
 use lib.ListN.{length}
 use Rattle.sheets.specs.Text.{line, lines}
+use Rattle.sheets.specs.Wrote.{Wrote}
 use Rattle.verdict.specs.declared.Answer.{Answer}
 use Rattle.verdict.specs.Limits.{verdict}
 use Rattle.tables.specs.Width.{recordWidth}
 use Rattle.tables.specs.Places.{recordCount}
 use Rattle.moments.specs.Tables.{fresh}
 use Rattle.moments.specs.Opening.{openRefusal, answered}
+use Rattle.print.specs.declared.Start.{Start}
 
 -- the answer of opening, with the slice t as its table
 abbrev pub answerOf : List ℕ → List ℕ → Answer
 answerOf f t = answered (openRefusal f (length t)) (verdict f)
 
-unfoldable pub sheetText : List ℕ → List ℕ → List ℕ
-sheetText f t =
-    line (answerOf f t .refusal ∷ answerOf f t .value ∷ [])
-    ++ cond (eqb (answerOf f t .value) 0) (lines recordWidth (recordCount f) (fresh f t)) []
+abbrev pub firstLine : List ℕ → List ℕ → List ℕ
+firstLine f t = line (answerOf f t .refusal ∷ answerOf f t .value ∷ [])
 
--- room for the table of the largest floor, and for its text
-pub record Space (table out : List ℕ) : Type 0 where
-  pub numbers : length table ≡ 4992
-  pub text : length out ≡ 65536
+abbrev pub recordLines : List ℕ → List ℕ → List ℕ
+recordLines f t = cond (eqb (answerOf f t .value) 0) (lines recordWidth (recordCount f) (fresh f t)) []
+
+unfoldable pub sheetText : List ℕ → List ℕ → List ℕ
+sheetText f t = firstLine f t ++ recordLines f t
+
+-- the first line is written at the start of out, and the first records of the table left are those that follow it
+pub record Began (f t out : List ℕ) (r : Start) (t′ out′ : List ℕ) : Type 0 where
+  pub first : Wrote out 0 (firstLine f t) out′ (r .end)
+  pub rest : lines recordWidth (r .records) t′ ≡ recordLines f t
+  pub most : r .records ≤ 312
+
+-- room for the table of the largest floor, which has 312 records
+pub record Space (table : List ℕ) : Type 0 where
+  pub numbers : length table ≡ 312 * recordWidth

@@ -1,40 +1,64 @@
 // The printing program (01): a floor from standard input; its refusal and verdict; at verdict 0 its table, a line for each record.
+ghost use mathlib.Core.Path.{_≡_};
 ghost use Prim.Native.Nat.{_<_};
-ghost use Rattle.sheets.specs.Wrote.{Wrote};
-ghost use Rattle.print.specs.Sheet.{sheetText, Space};
+ghost use lib.ListN.{length};
+ghost use Rattle.sheets.specs.Wrote.{Line};
+ghost use Rattle.print.specs.Sheet.{sheetText, Began, Space};
 use libc::STDIN_FILENO;
 use libc::STDOUT_FILENO;
 use sheets::pair;
-use sheets::rows;
+use sheets::pieces::write_rows;
 use tables::places::record_count;
 use tables::write::WIDTH;
 
-// The table of the largest floor, 12 by 12 bays.
-const LARGEST: usize = 4992;
+// The table of the largest floor, 12 by 12 bays: 312 records.
+const LARGEST: usize = 312 * WIDTH;
 
 // The largest floor has 3,568 bytes. Of an input of 3,584 bytes or more the refusal is 1, 2 or 3, and depends on its first record and on
 // its length modulo 16 alone (`long-alike`), so that many bytes and the length modulo 16 of what follows stand for all of it.
 const LONG: usize = 3584;
 
-// What is printed of a floor.
-fn sheet(floor: &[u8], table: &mut [u32], out: &mut [u8]) -> usize
-    requires { ⌜ Space (now table) (now out) ⌝ }
-    ensures { λ r. ⌜ Wrote (now (out .entry)) 0 (sheetText (now (floor .entry)) (now (table .entry))) (now (out .exit)) r ⌝ }
+// Where the first line ends, and how many records follow.
+struct Start {
+    end: usize,
+    records: u32,
+}
+
+// Opens the floor, and writes the first line to out.
+fn begin(floor: &[u8], table: &mut [u32], out: &mut [u8]) -> Start
+    requires { ⌜ Line (now out) ⌝ }
+    ensures { λ r. ⌜ Began (now (floor .entry)) (now (table .entry)) (now (out .entry)) r (now (table .exit)) (now (out .exit)) ⌝ }
 {
     let answer = moments::open(floor, table);
     let end = pair(answer.refusal, answer.value, out);
     if answer.value != 0 {
-        return end;
+        return Start {
+            end: end,
+            records: 0,
+        };
     }
-    rows(table, WIDTH, record_count(floor) as usize, out, end)
+    Start {
+        end: end,
+        records: record_count(floor),
+    }
 }
 
-// The sheet is written in one piece.
+// Prints a floor, and answers how many bytes that took.
+fn sheet(floor: &[u8], table: &mut [u32]) -> usize
+    requires { ⌜ Space (now table) ⌝ }
+    ensures { λ r. ⌜ r ≡ length (sheetText (now (floor .entry)) (now (table .entry))) ⌝ }
+{
+    let mut out = [0u8; 22];
+    let start = begin(floor, table, &mut out);
+    let end = start.end;
+    let records = start.records as usize;
+    io::write_all(STDOUT_FILENO, &out[..end]);
+    end + write_rows(table, WIDTH, records)
+}
+
 fn show(floor: &[u8]) {
     let mut table = [0u32; LARGEST];
-    let mut out = io::large_buffer();
-    let n = sheet(floor, &mut table, &mut out);
-    io::write_all(STDOUT_FILENO, &out[..n]);
+    sheet(floor, &mut table);
 }
 
 // Reads once, and answers how many bytes came.

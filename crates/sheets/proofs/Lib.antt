@@ -1,4 +1,5 @@
 pub mod Decimals
 pub mod Texts
+pub mod Cuts
 pub mod Writing
 pub mod Figures

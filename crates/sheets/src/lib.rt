@@ -1,4 +1,6 @@
 // Lines of decimal numbers as text, in a lent buffer. Each function writes at a place and answers the place after its text.
+pub mod pieces;
+
 ghost use mathlib.Core.List.{[], _∷_};
 ghost use Prim.Native.Nat.{_+_, _*_, _≤_, _<_};
 ghost use lib.ListN.{length, take, drop};
@@ -54,13 +56,13 @@ fn row(table: &[u32], from: usize, n: usize, out: &mut [u8], at: usize) -> usize
     mark(out, end, NEWLINE)
 }
 
-// The first `count` records of `width` numbers of the table, each as a line.
-pub fn rows(table: &[u32], width: usize, count: usize, out: &mut [u8], at: usize) -> usize
-    requires { ⌜ Room (now table) 0 width count (now out) at ⌝ }
-    ensures { λ r. ⌜ Wrote (now (out .entry)) at (lines width count (now (table .entry))) (now (out .exit)) r × (r ≤ at + 11 * (count * width)) ⌝ }
+// The records of `width` numbers of the table from record `first` on, `count` of them, each as a line, at the start of out.
+pub fn rows(table: &[u32], width: usize, first: usize, count: usize, out: &mut [u8]) -> usize
+    requires { ⌜ Room (now table) (first * width) width count (now out) 0 ⌝ }
+    ensures { λ r. ⌜ Wrote (now (out .entry)) 0 (lines width count (drop (first * width) (now (table .entry)))) (now (out .exit)) r × (r ≤ 11 * (count * width)) ⌝ }
 {
-    let mut from: usize = 0;
-    let mut end = at;
+    let mut from = first * width;
+    let mut end: usize = 0;
     let mut k: usize = 0;
     while k < count {
         end = row(table, from, width, out, end);

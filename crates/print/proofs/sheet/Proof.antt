@@ -1,7 +1,10 @@
--- After the first line the sheet ends, or goes on with the records (Sheets).
+-- The first line ends within its buffer; with the records that follow it is the whole text (Sheets).
 -- Assumes nothing.
+use Prim.Native.Nat.{zero-le}
+use native.Mathlib.Omega.{arith}
 use borrow.Author.Needs.{needs}
-use Rattle.print.proofs.Sheets.{ends-there, goes-on}
+use Rattle.sheets.proofs.Writing.{wrote-counts}
+use Rattle.print.proofs.Sheets.{whole}
 use Rattle.print.proofs.sheet.Statement.{statement}
 use Rattle.print.proofs.sheet.Tie as tie
 
@@ -9,16 +12,13 @@ pub sheet-spec : {M : Type 1} → statement M
 sheet-spec =
     tie.close
     (tie.spec
-    (λ c κs. search needs)
-    (λ c κs. search needs)
-    (λ c. search needs)
-    (λ c. search needs)
-    (λ c. ends-there (c .before .before .before .before .before .before .before .before .«open» .ensures) (c .before .before .before .before .pair .ensures .0) (c .if1 .taken))
-    (λ c κs. search needs)
     (λ c. search needs)
     (λ c κs. search needs)
     (λ c. search needs)
+    (λ c. wrote-counts zero-le (c .before .before .before .before .begin .ensures .first) .0)
+    (λ c. wrote-counts zero-le (c .before .before .before .before .before .begin .ensures .first) .1)
+    (λ c κs. search needs)
+    (λ c κs. search needs)
+    (λ c. omega (arith, wrote-counts zero-le (c .before .before .before .before .before .before .before .before .begin .ensures .first) .0, c .before .before .before .before .before .before .before .before .begin .ensures .most, c .write-rows .ensures .1))
     (λ c. search needs)
-    (λ c. let b = c .before .before .before .before .before .before in
-    goes-on (b .before .before .before .before .before .before .before .before .«open» .ensures) (b .before .before .before .before .pair .ensures .0) (b .if1 .left)
-    (c .before .before .before .before .record-count .ensures .0) (c .before .before .rows .ensures .0)))
+    (λ c. whole (c .before .before .before .before .before .before .before .before .begin .ensures) (c .write-rows .ensures .0)))

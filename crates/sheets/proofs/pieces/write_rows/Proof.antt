@@ -1,0 +1,60 @@
+-- Each turn's bytes come to those of the records before it (lines-add); a piece has some of the records left and fits (Cuts).
+-- Assumes nothing.
+use mathlib.Core.Path.{_≡_}
+use Prim.Native.Nat.{ℕ, _+_, _*_, _-_, _≤_, _<_}
+use native.Mathlib.Nat.{mul-le-mul-right}
+use native.Mathlib.Omega.{arith}
+use borrow.Author.Needs.{needs}
+use lib.ListN.{length}
+use Rattle.sheets.specs.Text.{lines}
+use Rattle.sheets.specs.Pieces.{piece}
+use Rattle.sheets.proofs.Texts.{lines-add}
+use Rattle.sheets.proofs.Cuts.{piece-some, piece-within, piece-fits}
+use Rattle.sheets.proofs.pieces.write_rows.Statement.{statement}
+use Rattle.sheets.proofs.pieces.write_rows.Tie as tie
+
+abbrev Inv-loop : tie.InvT-loop
+Inv-loop table width count total₀ done₀ total done =
+    (total ≡ length (lines width done table)) × (total ≤ 11 * (done * width)) × (done ≤ count)
+
+abbrev μ-loop : tie.MeasureT-loop
+μ-loop table width count total₀ done₀ total done = count - done
+
+-- n records after `done`, as a piece has them
+module _ {width count done n : ℕ} (some : 1 ≤ width) (more : done < count) (e : n ≡ piece width (count - done)) where
+  few : done + n ≤ count
+  few = omega (arith, piece-within width (count - done) n e some)
+
+  held : (done + n) * width ≤ count * width
+  held = mul-le-mul-right width few
+
+write-piece-requires : tie.Need-write-piece-requires Inv-loop μ-loop
+write-piece-requires c κs =
+    let start = c .before .before .before .before in
+    record {
+      some = search needs;
+      held = omega (arith, held (start .pre .some) (c .before .loop-test .taken) (c .fitting .ensures));
+      fits = piece-fits _ _ _ (c .fitting .ensures) (start .pre .some);
+    }
+
+pub write-rows-spec : {M : Type 1} → statement M
+write-rows-spec =
+    tie.close
+    (tie.spec
+    Inv-loop
+    μ-loop
+    (λ c. search needs)
+    (λ c. search needs)
+    (λ c κs. search needs)
+    write-piece-requires
+    (λ c. omega (arith, held (c .before .before .before .before .before .pre .some) (c .before .before .loop-test .taken) (c .before .fitting .ensures)))
+    (λ c. omega (arith, few (c .before .before .before .before .before .pre .some) (c .before .before .loop-test .taken) (c .before .fitting .ensures)))
+    (λ c. omega (arith, few (c .before .before .before .before .before .pre .some) (c .before .before .loop-test .taken) (c .before .fitting .ensures), piece-some _ _ _ (c .before .fitting .ensures) (c .before .before .before .before .before .pre .some) (c .before .before .before .before .before .pre .fits) (omega arith)))
+    (λ c. (
+      lines-add (c .before .before .before .before .before .args .width) (c .before .before .before .loop .done) (c .before .fitting .result) (c .before .before .before .before .before .args .table .now)
+          (c .before .before .before .loop .inv .0) (c .write-piece .ensures .0),
+      omega arith,
+      few (c .before .before .before .before .before .pre .some) (c .before .before .loop-test .taken) (c .before .fitting .ensures),
+    ))
+    (λ c. let done : c .before .loop .done ≡ c .before .before .before .args .count = omega arith in
+    (rw done at (c .before .loop .inv .0), rw done at (c .before .loop .inv .1))))

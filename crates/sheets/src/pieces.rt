@@ -1,0 +1,47 @@
+// Lines of decimal numbers on standard output, as many at a time as surely fit a buffer. No contract can say what was written: each piece's
+// text is `rows`'s, and the bytes of all pieces, counted, are as many as the whole text has, so none is left out or written twice.
+ghost use mathlib.Core.Path.{_≡_};
+ghost use Prim.Native.Nat.{_*_, _≤_};
+ghost use lib.ListN.{length, drop};
+ghost use Rattle.sheets.specs.Text.{lines};
+ghost use Rattle.sheets.specs.Pieces.{piece, Piece, Sheet};
+use crate::rows;
+use libc::STDOUT_FILENO;
+
+// io's large buffer has room for so many numbers, each with the byte beside it.
+const NUMBERS: usize = 5957;
+
+// How many records of `width` numbers are written next, where some are left.
+fn fitting(width: usize, left: usize) -> usize
+    requires { ⌜ 1 ≤ width ⌝ }
+    ensures { λ r. ⌜ r ≡ piece width left ⌝ }
+{
+    let most = NUMBERS / width;
+    if left < most { left } else { most }
+}
+
+// Writes `count` records from record `first` on, and answers how many bytes they took.
+fn write_piece(table: &[u32], width: usize, first: usize, count: usize) -> usize
+    requires { ⌜ Piece (now table) width first count ⌝ }
+    ensures { λ r. ⌜ (r ≡ length (lines width count (drop (first * width) (now (table .entry))))) × (r ≤ 11 * (count * width)) ⌝ }
+{
+    let mut out = io::large_buffer();
+    let end = rows(table, width, first, count, &mut out);
+    io::write_all(STDOUT_FILENO, &out[..end]);
+    end
+}
+
+// Writes the first `count` records of `width` numbers of the table, each as a line, and answers how many bytes they took.
+pub fn write_rows(table: &[u32], width: usize, count: usize) -> usize
+    requires { ⌜ Sheet (now table) width count ⌝ }
+    ensures { λ r. ⌜ (r ≡ length (lines width count (now (table .entry)))) × (r ≤ 11 * (count * width)) ⌝ }
+{
+    let mut total: usize = 0;
+    let mut done: usize = 0;
+    while done < count {
+        let n = fitting(width, count - done);
+        total += write_piece(table, width, done, n);
+        done += n;
+    }
+    total
+}
