@@ -1,0 +1,33 @@
+-- The calls that are left go down; both buffers keep their length.
+-- Assumes nothing.
+use borrow.Author.Needs.{needs}
+use lib.ListN.{length}
+use mathlib.Core.Path.{_≡_}
+use Rattle.calls.proofs.calls.Statement.{statement}
+use Rattle.calls.proofs.calls.Tie as tie
+
+abbrev Inv-loop : tie.InvT-loop
+Inv-loop floor₀ table₀ left₀ floor table left = (length floor ≡ length floor₀) × (length table ≡ length table₀)
+
+abbrev μ-loop : tie.MeasureT-loop
+μ-loop floor₀ table₀ left₀ floor table left = left
+
+pub calls-spec : {M : Type 1} → statement M
+calls-spec =
+    tie.close
+    (tie.spec
+    Inv-loop
+    μ-loop
+    (λ c κs. search needs)
+    (λ c. search needs)
+    (λ c. search needs)
+    (λ c κs. search needs)
+    (λ c. search needs)
+    (λ c. search needs)
+    (λ c. search needs)
+    (λ c. search needs)
+    (λ c. search needs)
+    (λ c. search needs)
+    (λ c. search needs)
+    (λ c. search needs)
+    (λ c. search needs))

@@ -1,0 +1,158 @@
+// Makes the calls that standard input asks for, as C makes them (crate gandhrumil), and prints what each answers.
+//
+// The input is sessions one after another. A session is, in little-endian words of 4 bytes: the floor's length, then its bytes; how many numbers
+// the table has, then these; how many calls there are, then each call, which is a word and what the call asks for:
+//
+//     1  open
+//     2  change   its length, then its bytes
+//     3  panel    x bay, y bay: two words each, the low one first
+//     4  steel    m, b, t, d, fc, fy: two words each, the low one first
+//     5  show
+//
+// `show` prints the floor's bytes, then all the numbers of the table, past its records too, each on a line of its own; the others print
+// refusal and value on a line. The program stops at a session without calls, which is what the end of the input reads as, at a length that its
+// buffers have no room for, and at a word that is no call.
+ghost use Prim.Native.Nat.{_*_, _≤_};
+ghost use lib.ListN.{length};
+ghost use Rattle.tables.specs.Width.{recordWidth};
+use gandhrumil::gandhrumil_change;
+use gandhrumil::gandhrumil_open;
+use gandhrumil::gandhrumil_panel;
+use gandhrumil::gandhrumil_steel;
+use libc::STDIN_FILENO;
+use libc::STDOUT_FILENO;
+use plan::fields::u32_at;
+use sheets::pair;
+use sheets::pieces::write_rows;
+use tables::write::WIDTH;
+use verdict::Answer;
+
+const LONGEST_FLOOR: usize = 4096;
+
+// Eight records more than the largest floor has.
+const LONGEST_TABLE: usize = 320 * WIDTH;
+
+const LONGEST_CHANGE: usize = 64;
+
+// The next word of the input, 0 past its end.
+fn word() -> u32 {
+    let mut bytes = [0u8; 4];
+    io::read_full(STDIN_FILENO, &mut bytes);
+    u32_at(&bytes, 0)
+}
+
+fn long() -> u64 {
+    let low = word() as u64;
+    let high = word() as u64;
+    high * 4294967296 + low
+}
+
+fn read_table(table: &mut [u32]) {
+    let mut i: usize = 0;
+    while i < table.len() {
+        table[i] = word();
+        i += 1;
+    }
+}
+
+fn show_answer(answer: Answer) {
+    let mut text = [0u8; 22];
+    let n = pair(answer.refusal, answer.value, &mut text);
+    io::write_all(STDOUT_FILENO, &text[..n]);
+}
+
+fn show_byte(byte: u8) {
+    io::print_decimal(STDOUT_FILENO, byte as u64);
+    io::write_all(STDOUT_FILENO, b"\n");
+}
+
+fn show(floor: &[u8], table: &[u32])
+    requires { ⌜ length (now table) ≤ 320 * recordWidth ⌝ }
+{
+    let mut i: usize = 0;
+    while i < floor.len() {
+        show_byte(floor[i]);
+        i += 1;
+    }
+    write_rows(table, 1, table.len());
+}
+
+fn read_and_change(floor: &mut [u8], table: &mut [u32], change: &mut [u8]) {
+    io::read_full(STDIN_FILENO, change);
+    show_answer(gandhrumil_change(floor, table, change));
+}
+
+fn change(floor: &mut [u8], table: &mut [u32]) -> bool {
+    let mut bytes = [0u8; LONGEST_CHANGE];
+    let n = word() as usize;
+    if n > LONGEST_CHANGE {
+        return false;
+    }
+    read_and_change(floor, table, &mut bytes[..n]);
+    true
+}
+
+// Makes the next call, and answers whether there was one.
+fn call(floor: &mut [u8], table: &mut [u32]) -> bool
+    requires { ⌜ length (now table) ≤ 320 * recordWidth ⌝ }
+{
+    match word() {
+        1 => show_answer(gandhrumil_open(floor, table)),
+        2 => return change(floor, table),
+        3 => show_answer(gandhrumil_panel(floor, long(), long())),
+        4 => show_answer(gandhrumil_steel(long(), long(), long(), long(), long(), long())),
+        5 => show(floor, table),
+        _ => return false,
+    }
+    true
+}
+
+fn calls(floor: &mut [u8], table: &mut [u32]) -> bool
+    requires { ⌜ length (now table) ≤ 320 * recordWidth ⌝ }
+{
+    let mut left = word();
+    if left == 0 {
+        return false;
+    }
+    while left > 0 {
+        if !call(floor, table) {
+            return false;
+        }
+        left -= 1;
+    }
+    true
+}
+
+fn with_table(floor: &mut [u8], table: &mut [u32]) -> bool
+    requires { ⌜ length (now table) ≤ 320 * recordWidth ⌝ }
+{
+    read_table(table);
+    calls(floor, table)
+}
+
+fn with_floor(floor: &mut [u8]) -> bool {
+    let mut table = [0u32; LONGEST_TABLE];
+    io::read_full(STDIN_FILENO, floor);
+    let n = word() as usize;
+    if n > LONGEST_TABLE {
+        return false;
+    }
+    with_table(floor, &mut table[..n])
+}
+
+// Makes the calls of one session, and answers whether another may follow.
+fn session() -> bool {
+    let mut floor = [0u8; LONGEST_FLOOR];
+    let n = word() as usize;
+    if n > LONGEST_FLOOR {
+        return false;
+    }
+    with_floor(&mut floor[..n])
+}
+
+fn main() {
+    let mut turns = u64::MAX;
+    while turns > 0 && session() {
+        turns -= 1;
+    }
+}

@@ -1,0 +1,170 @@
+//! The program that makes the product's calls, held against the reference: floors, changes and queries as `differ` draws them.
+
+mod described;
+mod kept;
+#[path = "../../../reference/tests/program/mod.rs"]
+mod program;
+mod recording;
+mod stream;
+
+use differ::floors::flips;
+use differ::{floors, runs, steel};
+use program::{first_difference, printed};
+use recording::sessions;
+use std::collections::BTreeSet;
+use std::fs;
+use std::path::{Path, PathBuf};
+use stream::{Call, Session, LONGEST_CHANGE, LONGEST_FLOOR, LONGEST_TABLE};
+
+fn stdin(sessions: &[Session]) -> Vec<u8> {
+    sessions.iter().flat_map(Session::stdin).collect()
+}
+
+/// Holds what the program prints against the right lines, call by call.
+fn compare(sessions: &[Session]) {
+    let printed = printed("calls", &stdin(sessions));
+    let mut lines = printed.split_inclusive('\n');
+    for (number, session) in sessions.iter().enumerate() {
+        for (place, made) in session.made.iter().enumerate() {
+            let taken: String = lines.by_ref().take(made.lines.len()).collect();
+            if let Some(difference) = first_difference(&made.text(), &taken) {
+                let call = &made.call;
+                panic!("session {number}, call {place}, {call:?}: {difference}");
+            }
+        }
+    }
+    assert_eq!(lines.next(), None, "printed after the last call");
+}
+
+/// The refusals that the calls of one kind got.
+fn refusals(sessions: &[Session], kind: fn(&Call) -> bool) -> BTreeSet<u32> {
+    let made = sessions.iter().flat_map(|session| &session.made);
+    let of_kind = made.filter(|made| kind(&made.call));
+    let refusal = |line: &str| line.split(' ').next().unwrap().parse().unwrap();
+    of_kind.map(|made| refusal(&made.lines[0])).collect()
+}
+
+fn opening(call: &Call) -> bool {
+    matches!(call, Call::Open)
+}
+
+fn changing(call: &Call) -> bool {
+    matches!(call, Call::Change(_))
+}
+
+fn of_panel(call: &Call) -> bool {
+    matches!(call, Call::Panel(..))
+}
+
+fn of_steel(call: &Call) -> bool {
+    matches!(call, Call::Steel(_))
+}
+
+#[test]
+fn floors_and_panels() {
+    let sessions = sessions("floors", 40, |case, _| floors::case(case));
+    assert_eq!(refusals(&sessions, opening), (0..=8).collect());
+    assert!(refusals(&sessions, of_panel).contains(&10));
+    compare(&sessions);
+}
+
+#[test]
+fn floors_with_every_byte_flipped() {
+    compare(&sessions("flipped", 1, flips::case));
+}
+
+#[test]
+fn changes() {
+    let sessions = sessions("changes", 20, |case, _| runs::case(case));
+    assert!(refusals(&sessions, changing).is_superset(&BTreeSet::from([0, 5, 6, 7, 8, 9])));
+    compare(&sessions);
+}
+
+#[test]
+fn what_is_described() {
+    let sessions = described::sessions();
+    assert!(sessions.iter().all(Session::fits));
+    assert_eq!(refusals(&sessions, opening), (0..=8).collect());
+    assert_eq!(refusals(&sessions, changing), (0..=9).collect());
+    compare(&sessions);
+}
+
+#[test]
+fn steel_queries() {
+    let sessions = sessions("steel queries", 8, |case, _| steel::case(case));
+    assert_eq!(refusals(&sessions, of_steel), BTreeSet::from([0, 11, 12]));
+    compare(&sessions);
+}
+
+/// A session of one steel query, which follows a fault.
+fn next_session() -> Vec<u8> {
+    kept::sessions().last().unwrap().stdin()
+}
+
+fn words(numbers: &[usize]) -> Vec<u8> {
+    let bytes = numbers.iter().map(|&number| (number as u32).to_le_bytes());
+    bytes.collect::<Vec<_>>().concat()
+}
+
+/// Buffers are filled whole, and what they have no room for is not read past.
+#[test]
+fn lengths_to_the_end_of_the_buffers() {
+    let mut session = Session::new(&[7; LONGEST_FLOOR], &[8; LONGEST_TABLE]);
+    session.make(Call::Change(vec![9; LONGEST_CHANGE]));
+    session.show();
+    compare(&[session]);
+    for stopped in [
+        words(&[LONGEST_FLOOR + 1]),
+        words(&[0, LONGEST_TABLE + 1]),
+        words(&[0, 0, 1, 2, LONGEST_CHANGE + 1]),
+        words(&[usize::MAX]),
+    ] {
+        let stdin = [stopped, next_session()].concat();
+        assert_eq!(printed("calls", &stdin), "");
+    }
+}
+
+/// At a session without calls and at words that are no call. An input that ends goes on with zeros.
+#[test]
+fn where_it_stops() {
+    for stopped in [[0, 0, 0, 0], [0, 0, 1, 0], [0, 0, 1, 6]] {
+        let stdin = [words(&stopped), next_session()].concat();
+        assert_eq!(printed("calls", &stdin), "");
+    }
+    let stdin = next_session();
+    for end in [0, 2, 12, 13, 16, 30, stdin.len() - 60, stdin.len() - 1] {
+        let (cut, zeros) = (&stdin[..end], [0; 64]);
+        assert_eq!(
+            printed("calls", cut),
+            printed("calls", &[cut, &zeros].concat()),
+            "cut at {end}"
+        );
+    }
+}
+
+fn kept(name: &str) -> PathBuf {
+    let crate_folder = Path::new(env!("CARGO_MANIFEST_DIR")).join("../../crates/calls");
+    crate_folder.join(name)
+}
+
+fn kept_contents() -> (Vec<u8>, String) {
+    let sessions = kept::sessions();
+    let stdout = sessions.iter().map(Session::stdout).collect();
+    (stdin(&sessions), stdout)
+}
+
+#[test]
+fn what_is_kept_is_right() {
+    let (stdin, stdout) = kept_contents();
+    assert_eq!(fs::read(kept("stdin")).unwrap(), stdin);
+    assert_eq!(fs::read_to_string(kept("stdout")).unwrap(), stdout);
+}
+
+/// `cargo test .. -p differ --test calls -- --ignored` writes the program's stdin and stdout anew.
+#[test]
+#[ignore = "writes files"]
+fn write_what_is_kept() {
+    let (stdin, stdout) = kept_contents();
+    fs::write(kept("stdin"), stdin).unwrap();
+    fs::write(kept("stdout"), stdout).unwrap();
+}

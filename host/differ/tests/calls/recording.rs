@@ -1,0 +1,104 @@
+//! The calls that the cases of `differ` make, answered by the reference and recorded.
+
+use crate::stream::{Call, Session};
+use differ::case::Case;
+use differ::job::{Calls, Job};
+use differ::tally::Tally;
+use gandhrumil::{Answer, Query};
+use std::cell::RefCell;
+
+thread_local! {
+    static SESSIONS: RefCell<Vec<Session>> = const { RefCell::new(Vec::new()) };
+}
+
+const RECORDING: Calls = Calls {
+    open,
+    change,
+    panel,
+    steel,
+};
+
+/// The sessions of some cases. A case is told its number.
+pub fn sessions(
+    part: &str,
+    cases: u64,
+    case: fn(&mut Case, u64) -> Result<(), String>,
+) -> Vec<Session> {
+    let job = Job {
+        calls: RECORDING,
+        ..Job::of_the_library(1)
+    };
+    let mut tally = Tally::default();
+    for number in 0..cases {
+        let draw = job.draw(part, number);
+        let tally = &mut tally;
+        let mut one = Case {
+            job: &job,
+            draw,
+            tally,
+        };
+        case(&mut one, number).expect("the reference is at one with itself");
+    }
+    SESSIONS.take()
+}
+
+/// Makes a call in the last session where that goes on from there, and in a new one where it does not.
+fn in_session<T>(
+    goes_on: impl Fn(&Session) -> bool,
+    new: impl Fn() -> Session,
+    call: impl FnOnce(&mut Session) -> T,
+) -> T {
+    SESSIONS.with_borrow_mut(|sessions| {
+        if !sessions.last().is_some_and(goes_on) {
+            let mut session = new();
+            if !session.fits() {
+                // Answered, and not recorded.
+                return call(&mut session);
+            }
+            sessions.push(session);
+        }
+        call(sessions.last_mut().expect("a session"))
+    })
+}
+
+/// After it floor and table are looked at whole.
+fn on_floor_and_table(floor: &[u8], table: &mut [u32], call: Call) -> (Answer, Vec<u8>) {
+    let lent: &[u32] = table;
+    let (answer, floor_after, table_after) = in_session(
+        |session| session.floor == floor && session.table == lent,
+        || Session::new(floor, lent),
+        |session| {
+            let answer = session.make(call);
+            session.show();
+            (answer, session.floor.clone(), session.table.clone())
+        },
+    );
+    table.copy_from_slice(&table_after);
+    (answer, floor_after)
+}
+
+fn open(floor: &[u8], table: &mut [u32]) -> Answer {
+    on_floor_and_table(floor, table, Call::Open).0
+}
+
+fn change(floor: &mut [u8], table: &mut [u32], change: &[u8]) -> Answer {
+    let (answer, after) = on_floor_and_table(floor, table, Call::Change(change.to_vec()));
+    floor.copy_from_slice(&after);
+    answer
+}
+
+fn panel(floor: &[u8], x: u64, y: u64) -> Answer {
+    in_session(
+        |session| session.floor == floor,
+        || Session::new(floor, &[]),
+        |session| session.make(Call::Panel(x, y)),
+    )
+}
+
+fn steel(query: Query) -> Answer {
+    in_session(
+        |_| true,
+        || Session::new(&[], &[]),
+        |session| session.make(Call::Steel(query)),
+    )
+}
