@@ -1,10 +1,10 @@
 //! Sessions of what is described one by one: floors and changes that each show one thing, runs of changes, steel queries.
 
 use crate::stream::{Call, Session, LONGEST_TABLE};
+use cases::queries;
+use cases::refusals::{self, Case};
+use cases::runs::{self, Run};
 use gandhrumil::Query;
-use reference::cases::{self, Case};
-use reference::queries;
-use reference::runs::{self, Run};
 
 fn of_case(case: Case) -> Session {
     // As many numbers as any floor of that length asks for, and more.
@@ -37,7 +37,7 @@ pub fn sessions() -> Vec<Session> {
     for given in queries::all() {
         queries_alone.make(of_query(given.query));
     }
-    let cases = cases::all().into_iter().map(of_case);
+    let cases = refusals::all().into_iter().map(of_case);
     let runs = runs::all().into_iter().map(of_run);
     cases.chain(runs).chain([queries_alone]).collect()
 }

@@ -1,8 +1,8 @@
 //! A few sessions that are kept with the program, which is run on them wherever it is proved.
 
 use crate::stream::{Call, Session};
+use floor::{record, Floor};
 use gandhrumil::Query;
-use reference::builder::{record, Floor};
 
 /// Wrong numbers, and five past the records.
 fn lent_table(floor: &[u8]) -> Vec<u32> {

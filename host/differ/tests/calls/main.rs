@@ -2,14 +2,12 @@
 
 mod described;
 mod kept;
-#[path = "../../../reference/tests/program/mod.rs"]
-mod program;
 mod recording;
 mod stream;
 
+use cases::program::{first_difference, printed};
 use differ::floors::flips;
 use differ::{floors, runs, steel};
-use program::{first_difference, printed};
 use recording::sessions;
 use std::collections::BTreeSet;
 use std::fs;
