@@ -15,6 +15,7 @@
 ghost use Prim.Native.Nat.{_*_, _≤_};
 ghost use lib.ListN.{length};
 ghost use Rattle.tables.specs.Width.{recordWidth};
+use answers::Answer;
 use gandhrumil::gandhrumil_change;
 use gandhrumil::gandhrumil_open;
 use gandhrumil::gandhrumil_panel;
@@ -25,7 +26,6 @@ use plan::fields::u32_at;
 use sheets::pair;
 use sheets::pieces::write_rows;
 use tables::write::WIDTH;
-use verdict::Answer;
 
 const LONGEST_FLOOR: usize = 4096;
 

@@ -1,51 +1,71 @@
--- A change's number is given exactly when GivenChange says so, and a change that is taken leaves an accepted floor.
---     answered    the answer is given: each test in turn either gives its number or lets the next decide
---     answers     what is given is answered
+-- A change's number is given exactly when GivenChange says so, and a change that is taken leaves an accepted floor and has its place there.
 -- Assumes nothing.
-use Prim.Native.Nat.{ℕ}
+use Prim.Native.Nat.{ℕ, zero, suc}
 use mathlib.Core.List.{List}
 use mathlib.Core.Logic.{_↔_}
-use mathlib.Core.Path.{_≡_, refl, sym, subst, _∙_}
+use mathlib.Core.Path.{_≡_, refl, sym, ap, _∙_}
 use native.Mathlib.Omega.{arith}
-use Rattle.numbers.proofs.Tests.{says-eq, fails, by-test}
-use Rattle.floor.specs.Refusal.{unless, refusal}
-use Rattle.floor.proofs.Meaning.{given}
-use Rattle.changes.specs.Change.{changed, orElse, changeRefusal}
-use Rattle.changes.specs.Meaning.{GivenChange, Taken}
-use Rattle.changes.specs.Meaning.GivenChange.{held, nine, judged}
+use borrow.Author.Tests.{ne-eqb}
+use Rattle.numbers.specs.Chains.{Holds, Sound}
+use Rattle.numbers.specs.Chains.Sound.{done, _then_}
+use Rattle.numbers.proofs.Chains.{answers, success, later, both-zero, went-on, _before_}
+use Rattle.floor.specs.Refusal.{valueChecks, valuesRefusal, refusal}
+use Rattle.floor.proofs.Meaning.{sound-floor, sound-values}
+use Rattle.plan.specs.Plan.{baysOf}
+use Rattle.changes.specs.declared.Ruling.{Ruling}
+use Rattle.changes.specs.Asked.{Placed}
+use Rattle.changes.specs.Change.{changePlace, changed}
+use Rattle.changes.specs.Meaning.{TakenChange}
+use Rattle.changes.specs.Refusal.{changeChecks, changeRefusal, GivenChange, rulingOf, ruling}
 use Rattle.changes.proofs.Meaning.{says-change}
-use Rattle.changes.proofs.Judging.{held-refused, unfit, decided}
 use Rattle.changes.proofs.Keeps.{values-decide}
 
-module _ (f c : List ℕ) where
-  abbrev G : ℕ → Type 0
-  G n = GivenChange n f c
-
-  answered : GivenChange (changeRefusal f c) f c
-  unfolding changeRefusal orElse unless
-  answered =
-      by-test G (says-eq (refusal f) 0)
-      (λ z. by-test G (says-change f c) (λ fit. judged (given 0 f .0 z) fit (given _ (changed f c) .0 (values-decide f c z fit))) (nine (given 0 f .0 z)))
-      (λ ne. held ne (given _ f .0 refl))
-
-  answers : {n : ℕ} → GivenChange n f c → changeRefusal f c ≡ n
-  answers {n} (held ne g) = sym (held-refused f c (sym (given n f .1 g)) ne)
-  answers (nine g no-fit) = sym (unfit f c (given 0 f .1 g) (fails (says-change f c) no-fit))
-  answers {n} (judged g fit h) =
-      let accepted = given 0 f .1 g in
-      sym (decided f c accepted fit) ∙ sym (values-decide f c accepted fit) ∙ given n (changed f c) .1 h
+pub sound-change : (f c : List ℕ) → Sound (changeChecks f c)
+unfolding changeChecks
+sound-change f c = sound-floor f before says-change f c then sound-values (changed f c)
 
 pub given-change : (n : ℕ) (f c : List ℕ) → (changeRefusal f c ≡ n) ↔ GivenChange n f c
-given-change n f c = (λ e. subst (λ m. GivenChange m f c) e (answered f c), answers f c)
+unfolding changeRefusal
+given-change n f c = answers (sound-change f c) n
 
 -- "success is 0"
-pub taken : (f c : List ℕ) → (changeRefusal f c ≡ 0) ↔ Taken f c
-taken f c = (λ e. by-way (given-change 0 f c .0 e) refl, λ t. given-change 0 f c .1 (judged (given 0 f .0 (t .held)) (t .fits) (given 0 _ .0 (t .left))))
+pub taken : (f c : List ℕ) → (changeRefusal f c ≡ 0) ↔ TakenChange f c
+unfolding changeRefusal changeChecks refusal valuesRefusal Holds
+taken f c = (parts, whole)
   where
-    by-way : {n : ℕ} → GivenChange n f c → n ≡ 0 → Taken f c
-    by-way (held ne g) z = absurd (ne z)
-    by-way (nine g no-fit) z = absurd (omega arith)
-    by-way {n} (judged g fit h) z = record { held = given 0 f .1 g; fits = fit; left = given n (changed f c) .1 h ∙ z }
+    parts : changeRefusal f c ≡ 0 → TakenChange f c
+    parts e =
+        let h = both-zero (sound-floor f) _ e in
+        let v = both-zero (says-change f c then done) (valueChecks (changed f c)) (h .1) in
+        let fit = success (says-change f c then done) .0 (v .0) .0 in
+        record { held = h .0; fits = fit; left = values-decide f c (h .0) fit ∙ v .1 }
+
+    whole : TakenChange f c → changeRefusal f c ≡ 0
+    whole t =
+        later (sound-floor f) _ (t .held)
+        ∙ sym (went-on 9 _ _ (valueChecks (changed f c)) (says-change f c .passes (t .fits)) (sym (t .left) ∙ values-decide f c (t .held) (t .fits)))
 
 pub keeps : (f c : List ℕ) → changeRefusal f c ≡ 0 → refusal (changed f c) ≡ 0
 keeps f c e = taken f c .0 e .left
+
+-- ---- the ruling on a change
+
+-- as the code tells it: with a number, and with the place where that is 0
+pub told : (f c : List ℕ) {r : Ruling} (number place : ℕ) → r ≡ rulingOf number place → number ≡ changeRefusal f c
+    → (number ≡ 0 → place ≡ changePlace (baysOf f) c) → r ≡ ruling f c
+unfolding ruling
+told f c zero place er en ep = er ∙ rw (← en, ep refl)
+told f c (suc n) place er en ep = er ∙ rw (← en, ne-eqb (suc n) 0 (λ z. omega arith))
+
+pub number-ruled : (f c : List ℕ) {r : Ruling} → r ≡ ruling f c → r .number ≡ changeRefusal f c
+unfolding ruling
+number-ruled f c e = ap (λ (j : Ruling). j .number) e
+
+-- a change that is not refused may be stored
+pub stores : (f c : List ℕ) {r : Ruling} → r ≡ ruling f c → r .number ≡ 0 → Placed f (r .place) c
+unfolding ruling
+stores f c {r} e z =
+    let n : changeRefusal f c ≡ 0 = sym (number-ruled f c e) ∙ z in
+    let p : r .place ≡ changePlace (baysOf f) c = ap (λ (j : Ruling). j .place) e ∙ rw n in
+    let t = taken f c .0 n in
+    record { held = t .held; fits = t .fits; is = p }

@@ -1,30 +1,49 @@
--- The three ways a change is judged, as `judge` goes them: the held floor is refused; the change does not fit; 5 to 7 of the changed
--- floor decide, which is the floor with the record put at its place.
+-- The three ways `judge` ends: the held floor is refused, the change does not fit it, or the changed floor decides.
 -- Assumes nothing.
 use Prim.Native.Nat.{ℕ}
-use mathlib.Core.Bool.{false}
+use mathlib.Core.Bool.{Bool, true, false, not}
 use mathlib.Core.List.{List}
-use mathlib.Core.Path.{_≡_}
-use borrow.Author.Tests.{ne-eqb}
-use Rattle.numbers.specs.Records.{put}
-use Rattle.floor.specs.Refusal.{unless, valuesRefusal, refusal}
-use Rattle.changes.specs.Change.{changeOk, placeOf, changed, orElse, changeRefusal}
+use mathlib.Core.Path.{_≡_, sym, _∙_}
+use native.Mathlib.Omega.{arith}
+use borrow.Author.Tests.{not-false}
+use Rattle.numbers.proofs.Chains.{refused, passed, stands, decides}
+use Rattle.plan.specs.declared.read.Bays.{Bays}
+use Rattle.plan.specs.Asked.{Sized}
+use Rattle.plan.specs.Plan.{baysOf}
+use Rattle.floor.specs.Refusal.{floorChecks, valuesRefusal, refusal}
+use Rattle.floor.proofs.Meaning.{sound-floor}
+use Rattle.changes.specs.declared.Ruling.{Ruling}
+use Rattle.changes.specs.Asked.{Indexed, Placed}
+use Rattle.changes.specs.Change.{changeOk, changePlace, changed}
 use Rattle.changes.specs.Meaning.{Fitting}
+use Rattle.changes.specs.Refusal.{changeChecks, changeRefusal, rulingOf, ruling}
 use Rattle.changes.proofs.Meaning.{says-change}
-use Rattle.changes.proofs.Placing.{changed-is}
+use Rattle.changes.proofs.Placing.{indexed, placed}
+use Rattle.changes.proofs.Given.{told}
 
-module _ (f c : List ℕ) where
-  pub held-refused : {n : ℕ} → n ≡ refusal f → (n ≡ 0 → ⊥) → n ≡ changeRefusal f c
-  unfolding changeRefusal orElse
-  held-refused {n} e ne = rw (← e, ne-eqb n 0 ne)
+module _ (f c : List ℕ) {m : ℕ} (em : m ≡ refusal f) where
+  pub held-refused : {r : Ruling} → (m ≡ 0 → ⊥) → r ≡ rulingOf m 0 → r ≡ ruling f c
+  unfolding changeRefusal changeChecks refusal
+  held-refused ne er = told f c m 0 er (stands (floorChecks f) _ em ne) (λ z. absurd (ne z))
 
-  pub unfit : refusal f ≡ 0 → changeOk f c ≡ false → 9 ≡ changeRefusal f c
-  unfolding changeRefusal orElse unless
-  unfit held no-fit = rw (held, no-fit)
+  module _ (z : m ≡ 0) {b : Bays} (h : Sized f b) {ok : Bool} (eo : ok ≡ changeOk b c) where
+    of-floor : ok ≡ changeOk (baysOf f) c
+    of-floor = eo ∙ rw (h .is)
 
-  pub decided : refusal f ≡ 0 → Fitting f c → valuesRefusal (changed f c) ≡ changeRefusal f c
-  unfolding changeRefusal orElse unless
-  decided held fit = rw (held, says-change f c .passes fit)
+    pub not-fitting : {r : Ruling} → not ok ≡ true → r ≡ rulingOf 9 0 → r ≡ ruling f c
+    unfolding changeRefusal changeChecks refusal
+    not-fitting t er = told f c 9 0 er (decides (sound-floor f) _ em z (refused _ _ _ _ of-floor t)) (λ n. absurd (omega arith))
 
-  pub decided-copy : refusal f ≡ 0 → Fitting f c → (q r : ℕ) → q ≡ placeOf f c → r ≡ valuesRefusal (put 16 q c f) → r ≡ changeRefusal f c
-  decided-copy held fit q r eq er = rw (er, eq, ← changed-is f c held fit) (decided held fit)
+    module _ (t : not ok ≡ false) where
+      fitting : Fitting f c
+      fitting = says-change f c .holds (sym of-floor ∙ not-false _ t)
+
+      pub may-place : Indexed b c
+      may-place = indexed f c fitting h
+
+      pub is-placed : {q : ℕ} → q ≡ changePlace b c → Placed f q c
+      is-placed eq = placed f c (sym em ∙ z) fitting h eq
+
+      pub copy-decides : {n q : ℕ} {r : Ruling} → q ≡ changePlace b c → n ≡ valuesRefusal (changed f c) → r ≡ rulingOf n q → r ≡ ruling f c
+      unfolding changeRefusal changeChecks refusal valuesRefusal
+      copy-decides {n} {q} eq en er = told f c n q er (decides (sound-floor f) _ em z (passed _ _ _ _ of-floor t en)) (λ _. eq ∙ rw (h .is))

@@ -15,11 +15,11 @@ use Rattle.records.proofs.Places.{one-place}
 use Rattle.plan.specs.declared.ways.Way.{Way}
 use Rattle.plan.specs.declared.ways.Way.the-variants.{X, Y}
 use Rattle.plan.specs.Fields.{partAt}
-use Rattle.plan.specs.Plan.{bays, many, start, value}
+use Rattle.plan.specs.Plan.{bays, baysOf, many, start, value}
 use Rattle.floor.specs.Refusal.{refusal}
-use Rattle.changes.specs.Change.{changeKind, changeIndex, placeOf, changed}
+use Rattle.changes.specs.Change.{changeKind, changeIndex, changePlace, changed}
 use Rattle.changes.specs.Meaning.{Fitting}
-use Rattle.changes.proofs.Placing.{placed, changed-is}
+use Rattle.changes.proofs.Placing.{place-room, changed-is}
 use Rattle.changes.proofs.Alike.{Alike, part-alike}
 
 -- the record of kind k and index i is not the one that c changes
@@ -29,21 +29,21 @@ Other c k i = k ≡ changeKind c → i ≡ changeIndex c → ⊥
 module _ (f c : List ℕ) (held : refusal f ≡ 0) (fit : Fitting f c) where
   -- ---- the bytes of one record
 
-  pub own-record : Alike (changed f c) (placeOf f c) c 0
+  pub own-record : Alike (changed f c) (changePlace (baysOf f) c) c 0
   own-record =
       record {
-        bytes = λ n l. rw (changed-is f c held fit)
-            (put-own 16 (placeOf f c) c f (placed f c held fit .place) (omega (arith, fit .full)) n l ∙ ap (λ (i : ℕ). getD c i 0) (omega arith));
+        bytes = λ n l. rw (changed-is f c)
+            (put-own 16 (changePlace (baysOf f) c) c f (place-room f c held fit) (omega (arith, fit .full)) n l ∙ ap (λ (i : ℕ). getD c i 0) (omega arith));
       }
 
   pub other-record : (k i : ℕ) → i < many f k → Other c k i → Alike (changed f c) (start f k + i) f (start f k + i)
   other-record k i h other =
       record {
-        bytes = λ n l. rw (changed-is f c held fit)
-            (put-other 16 (placeOf f c) c f (placed f c held fit .place) (omega (arith, fit .full)) (start f k + i) n apart l);
+        bytes = λ n l. rw (changed-is f c)
+            (put-other 16 (changePlace (baysOf f) c) c f (place-room f c held fit) (omega (arith, fit .full)) (start f k + i) n apart l);
       }
     where
-      apart : start f k + i ≡ placeOf f c → ⊥
+      apart : start f k + i ≡ changePlace (baysOf f) c → ⊥
       apart e =
           let q = one-place (bays f X) (bays f Y) k i (changeKind c) (changeIndex c) h (fit .index) e in
           other (q .0) (q .1)

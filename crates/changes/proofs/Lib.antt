@@ -1,10 +1,8 @@
 pub mod Meaning
 pub mod Copy
-pub mod Storing
 pub mod Placing
-pub mod Judging
 pub mod Alike
 pub mod Kept
 pub mod Keeps
 pub mod Given
-pub mod Only
+pub mod Judging

@@ -6,10 +6,11 @@ use lib.ListN.{length}
 use Rattle.numbers.specs.Tests.{Says}
 use Rattle.numbers.proofs.Tests.{says-lt, says-eq, says-and, says-as}
 use Rattle.records.proofs.Meaning.{says-zero, says-changeable}
+use Rattle.plan.specs.Plan.{baysOf}
 use Rattle.changes.specs.Change.{changeOk}
 use Rattle.changes.specs.Meaning.{Fitting}
 
-pub says-change : (f c : List ℕ) → Says (changeOk f c) (Fitting f c)
+pub says-change : (f c : List ℕ) → Says (changeOk (baysOf f) c) (Fitting f c)
 unfolding changeOk
 says-change f c =
     says-as

@@ -1,2 +1,4 @@
 pub mod Change
 pub mod Meaning
+pub mod Refusal
+pub mod Asked

@@ -5,7 +5,7 @@ use native.Mathlib.Omega.{arith}
 use mathlib.Core.Bool.{true}
 use mathlib.Core.Logic.{inl}
 use mathlib.Core.Path.{refl}
-use Rattle.rules.specs.Sizes.{Span, Column, Line}
+use Rattle.stiffness.specs.Asked.{Span, Column, Line}
 
 pub edge : {span column : ℕ} → Span span → Column column → Line true 0 span column
 edge s c =

@@ -1,11 +1,12 @@
 // Document 000, Examples (1) to (3): the inner longitudinal frame of the floor with beams. Its moments are asked of the whole floor.
+use crate::areas::grade_420;
 use crate::compare::figure;
 use crate::compare::formula;
-use rules::line::column_strip_width;
-use rules::line::frame_width;
-use rules::section::Section;
-use rules::section::edge_torsion;
 use steel::steel;
+use stiffness::line::column_strip_width;
+use stiffness::line::frame_width;
+use stiffness::section::Section;
+use stiffness::section::edge_torsion;
 use strips::span::clear_length;
 use strips::span::span_ratio;
 use strips::span::torsion_ratio;
@@ -62,5 +63,5 @@ pub fn all() {
     ratios();
     parts();
     widths();
-    figure(148, 891, steel(1221400, 3000, 165, 133, 30, 420).value);
+    figure(148, 891, grade_420(1221400, 3000, 165, 133, 30).value);
 }

@@ -2,10 +2,10 @@
 ghost use mathlib.Core.Path.{_≡_};
 ghost use mathlib.Core.Bool.{true};
 ghost use Prim.Native.Nat.{_≤_};
-ghost use Rattle.rules.specs.Sizes.{Span, Column, Frame};
-ghost use Rattle.rules.specs.Lines.{frameWidth};
-use rules::line::column_strip_width;
-use rules::line::frame_width;
+ghost use Rattle.stiffness.specs.Asked.{Span, Column, Frame};
+ghost use Rattle.stiffness.specs.Lines.{frameWidth};
+use stiffness::line::column_strip_width;
+use stiffness::line::frame_width;
 
 pub fn edge_width(span: u64, column: u64) -> u64
     requires { ⌜ Span span × Column column ⌝ }

@@ -2,9 +2,9 @@
 use crate::compare::formula;
 use crate::edge::edge_width;
 use numbers::larger;
-use rules::line::alpha;
-use rules::line::frame_width;
-use rules::section::Section;
+use stiffness::line::alpha;
+use stiffness::line::frame_width;
+use stiffness::section::Section;
 ghost use Prim.Native.Nat.{_≤_};
 ghost use Rattle.figures.specs.Ranges.{Sums};
 

@@ -3,18 +3,20 @@
 // Formulas stand here with their numbers. Whole floors come on standard input, one after another, in little-endian words of 4 bytes: the
 // floor's length, how many questions, the floor's bytes; and each question: the figure's number, what is asked, the printed figure. What is asked is 0, the
 // refusal; 1, the verdict; or 2 and above, a number of the table, counted from 2.
+mod areas;
 mod beams;
 mod compare;
 mod edge;
 mod general;
 mod limits;
+mod panels;
 mod plates;
-mod thickness;
 
+use answers::Answer;
+use areas::grade_420;
 use compare::figure;
 use libc::STDIN_FILENO;
 use plan::fields::u32_at;
-use verdict::Answer;
 
 // The largest floor, 12 by 12 bays.
 const LONGEST_FLOOR: usize = 3568;
@@ -73,12 +75,12 @@ fn one() -> bool {
 }
 
 fn formulas() {
-    let refused = steel::steel(20000000, 1000, 150, 124, 30, 420).refusal;
+    let refused = grade_420(20000000, 1000, 150, 124, 30).refusal;
     figure(1, 12, refused);
     limits::all();
     beams::all();
     plates::all();
-    thickness::all();
+    panels::all();
     general::all();
 }
 

@@ -1,12 +1,13 @@
 // Document 000, Examples (4) to (6): flat plates. Their moments are asked of whole floors.
+use crate::areas::grade_420;
 use crate::compare::figure;
 use crate::compare::formula;
 use crate::edge::edge_strip;
 use crate::edge::edge_width;
-use rules::line::alpha;
-use rules::line::column_strip_width;
-use rules::section::Section;
 use steel::steel;
+use stiffness::line::alpha;
+use stiffness::line::column_strip_width;
+use stiffness::section::Section;
 use strips::span::clear_length;
 
 // Example (4), 1: the outer frame along y.
@@ -34,7 +35,7 @@ fn along_x() {
 // Example (5)
 fn wide_column() {
     formula(165, 4050, clear_length(4500, 450));
-    figure(168, 1089, steel(5855000, 3000, 175, 145, 25, 420).value);
+    figure(168, 1089, grade_420(5855000, 3000, 175, 145, 25).value);
 }
 
 // Example (6), where the steel of a strip of 2,750 is printed per metre: it is compared in tenths.
@@ -44,9 +45,9 @@ fn no_beams() {
     formula(
         174,
         11275,
-        10 * (steel(7062000, 2750, 200, 170, 25, 420).value as u64),
+        10 * (grade_420(7062000, 2750, 200, 170, 25).value as u64),
     );
-    figure(175, 990, steel(0, 2750, 200, 170, 25, 420).value);
+    figure(175, 990, grade_420(0, 2750, 200, 170, 25).value);
 }
 
 pub fn all() {

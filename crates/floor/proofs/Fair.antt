@@ -16,17 +16,20 @@ use Rattle.plan.specs.declared.ways.Way.{Way}
 use Rattle.plan.specs.declared.ways.Way.the-variants.{X, Y}
 use Rattle.plan.specs.declared.ways.End.{End}
 use Rattle.plan.specs.declared.ways.End.the-variants.{Low, High}
+use Rattle.plan.specs.declared.read.Bays.{Bays}
+use Rattle.plan.specs.Asked.{Sized}
 use Rattle.plan.specs.Fields.{partAt}
 use Rattle.plan.specs.Ways.{pick, spanKind, lineKind, partOf}
 use Rattle.plan.proofs.Reading.{there, absent}
 use Rattle.plan.proofs.Directions.{span-count, line-count}
 use Rattle.plan.specs.Plan.{bays, many, value, thickness, column, side, span, lastLine, beamWidth, beamDepth, offset}
 use Rattle.floor.specs.Refusal.{refusal}
-use Rattle.floor.specs.Meaning.{First, Counted, Beamed, LayoutAllowed, BeamsDeep}
+use Rattle.floor.specs.Meaning.{First, Counted}
+use Rattle.layouts.specs.Asked.{Allowed}
+use Rattle.layouts.specs.Meaning.{Beamed, LayoutAllowed, BeamsDeep}
 use Rattle.floor.specs.Fair.{Fair}
-use Rattle.floor.proofs.Accepted.{passes}
-use Rattle.floor.proofs.Meaning.{says-first, first-bays, says-counted, says-ranges}
-use Rattle.floor.proofs.Beams.{says-columns, says-beams, laid, layout-is}
+use Rattle.floor.proofs.Meaning.{first-bays, passes}
+use Rattle.layouts.proofs.Beams.{laid, layout-is}
 
 module _ (a b c : ℕ) where
   span-range : (d : Way) → InRange (spanKind d) a b c → Span a
@@ -44,13 +47,13 @@ beam-most = ⊎-elim (λ z. (omega arith, omega arith)) (λ h. (h .0 .1, h .1 .1
 
 module _ (f : List ℕ) (e : refusal f ≡ 0) where
   first : First f
-  first = says-first f .holds (passes f e .first)
+  first = passes f e .first
 
   pub bays-read : (d : Way) → bays f d ≡ pick d (partAt f 0 1) (partAt f 0 2)
   bays-read = first-bays f first
 
   pub ranged : (k i : ℕ) → i < many f k → InRange k (value f k i 1) (value f k i 2) (value f k i 3)
-  ranged k i h = rw (there f k i 1 h, there f k i 2 h, there f k i 3 h) (says-ranges f .holds (passes f e .ranged) k i h)
+  ranged k i h = rw (there f k i 1 h, there f k i 2 h, there f k i 3 h) (passes f e .ranged k i h)
 
   pub anywhere : (k : ℕ) (P : ℕ → ℕ → Type 0) → P 0 0 → ((a b c : ℕ) → InRange k a b c → P a b) → (i : ℕ) → P (value f k i 1) (value f k i 2)
   anywhere k P none some i =
@@ -101,7 +104,7 @@ module _ (f : List ℕ) (e : refusal f ≡ 0) where
       by-test (λ n. n ≤ 12000) (says-and (says-le i (bays f X)) (says-le j (bays f Y))) (λ h. offset-part d (j * (bays f X + 1) + i)) (λ h. zero-le)
 
   beams : LayoutAllowed f × BeamsDeep f
-  beams = says-beams f .holds (passes f e .beams)
+  beams = passes f e .beams
 
   beam-deep : (d : Way) (l : ℕ) → Beamed f d l → thickness f < beamDepth f d l
   beam-deep d l b =
@@ -110,8 +113,12 @@ module _ (f : List ℕ) (e : refusal f ≡ 0) where
         | no h ↦ beams .1 d l (omega arith) b
       ]
 
+  -- for crates above, which have the bays at hand
+  pub laid-out : {b : Bays} → Sized f b → Allowed f b
+  laid-out h = record { lined = record { sized = h; bay = λ d. bays-range d .0 }; allowed = beams .0 }
+
   counted : Counted f
-  counted = says-counted f .holds (passes f e .count)
+  counted = passes f e .counted
 
   pub fair : Fair f
   unfolding InRange countOf
@@ -132,7 +139,7 @@ module _ (f : List ℕ) (e : refusal f ≡ 0) where
         width-most = λ d l. beam-most (beam-sizes d l) .0;
         depth-most = λ d l. beam-most (beam-sizes d l) .1;
         offset-most = offset-range;
-        clear = says-columns f .holds (passes f e .columns);
+        clear = passes f e .columns;
         layout = laid f (beams .0);
         layout-is = layout-is f (beams .0);
         deep = beam-deep;

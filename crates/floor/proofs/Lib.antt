@@ -1,5 +1,4 @@
-pub mod Chain
 pub mod Accepted
-pub mod Beams
 pub mod Meaning
+pub mod Filed
 pub mod Fair

@@ -1,17 +1,17 @@
 -- What each check says, both ways, put together from the parts of its test; and that `refusal` answers exactly the number given.
---     answered     the answer is given: each test in turn either fails, and its number is given, or lets the next decide
---     answers      what is given is answered: the tests before it pass and its own fails, so the chain computes to it
 -- Checks 6 and 7 are in Beams.
 -- Assumes nothing.
 use Prim.Native.Nat.{ℕ, _*_, _%_}
-use mathlib.Core.Bool.{Bool}
 use mathlib.Core.List.{List}
 use mathlib.Core.Logic.{_↔_}
-use mathlib.Core.Path.{_≡_, refl, subst}
+use mathlib.Core.Path.{_≡_}
 use lib.ListN.{length}
 use borrow.Author.Tests.{le-leb}
 use Rattle.numbers.specs.Tests.{Says}
-use Rattle.numbers.proofs.Tests.{says-le, says-eq, says-and, by-test, fails}
+use Rattle.numbers.proofs.Tests.{says-le, says-eq, says-and}
+use Rattle.numbers.specs.Chains.{Holds, Sound}
+use Rattle.numbers.specs.Chains.Sound.{done, _then_}
+use Rattle.numbers.proofs.Chains.{answers, success}
 use Rattle.records.specs.Kinds.{total}
 use Rattle.records.proofs.Meaning.{says-sizes, says-values, says-zero}
 use Rattle.plan.specs.declared.ways.Way.{Way}
@@ -21,20 +21,11 @@ use Rattle.floor.specs.declared.refusal.Check.the-variants.{Listed, Rang
 use Rattle.plan.specs.Fields.{kindAt, indexAt, partAt}
 use Rattle.plan.specs.Ways.{pick}
 use Rattle.plan.specs.Plan.{bays}
-use Rattle.floor.specs.Refusal.{unless, lengthOk, headIs, firstOk, countOk, recordOk, everyRecord, valuesRefusal, refusal}
-use Rattle.floor.specs.Meaning.{Whole, HeadIs, First, Counted, EachRecord, AsListed, InRanges, Given}
-use Rattle.floor.specs.Meaning.Given.{success, one, two, three, four, five, six, seven}
+use Rattle.floor.specs.Refusal.{lengthOk, headIs, firstOk, countOk, recordOk, everyRecord, valueChecks, floorChecks, refusal, Given}
+use Rattle.floor.specs.Meaning.{Whole, HeadIs, First, Counted, EachRecord, AsListed, InRanges}
+use Rattle.floor.specs.Passes.{Passes}
 use Rattle.floor.proofs.Accepted.{at-record, all-records}
-use Rattle.floor.proofs.Beams.{says-columns, says-beams}
-
--- one test of the chain, by what it says
-past : (n : ℕ) {ok : Bool} {P : Type 0} {after m : ℕ} → Says ok P → P → after ≡ m → unless ok n after ≡ m
-unfolding unless
-past n s p e = rw (s .passes p) e
-
-stopped : (n after : ℕ) {ok : Bool} {P : Type 0} → Says ok P → ¬ P → unless ok n after ≡ n
-unfolding unless
-stopped n after s q = rw (fails s q)
+use Rattle.layouts.proofs.Beams.{says-columns, says-beams}
 
 module _ (f : List ℕ) where
   pub says-whole : Says (lengthOk f) (Whole f)
@@ -75,29 +66,28 @@ module _ (f : List ℕ) where
 
   -- ---- "given exactly when"
 
-  abbrev G : ℕ → Type 0
-  G n = Given n f
+  pub sound-values : Sound (valueChecks f)
+  unfolding valueChecks
+  sound-values = says-ranges then says-columns f then says-beams f then done
 
-  answered : Given (refusal f) f
-  unfolding refusal valuesRefusal unless
-  answered =
-      by-test G says-whole (λ w. by-test G says-first (λ s. by-test G says-counted (λ c. by-test G says-listed (λ l.
-      by-test G says-ranges (λ r. by-test G (says-columns f) (λ k. by-test G (says-beams f) (success w s c l r k) (seven w s c l r k))
-      (six w s c l r)) (five w s c l)) (four w s c)) (three w s)) (two w)) one
-
-  answers : {n : ℕ} → Given n f → refusal f ≡ n
-  unfolding refusal valuesRefusal
-  answers (success w s c l r k b) =
-      past 1 says-whole w (past 2 says-first s (past 3 says-counted c (past 4 says-listed l (past 5 says-ranges r (past 6 (says-columns f) k (past 7 (says-beams f) b refl))))))
-  answers (one n) = stopped 1 _ says-whole n
-  answers (two w n) = past 1 says-whole w (stopped 2 _ says-first n)
-  answers (three w s n) = past 1 says-whole w (past 2 says-first s (stopped 3 _ says-counted n))
-  answers (four w s c n) = past 1 says-whole w (past 2 says-first s (past 3 says-counted c (stopped 4 _ says-listed n)))
-  answers (five w s c l n) = past 1 says-whole w (past 2 says-first s (past 3 says-counted c (past 4 says-listed l (stopped 5 _ says-ranges n))))
-  answers (six w s c l r n) =
-      past 1 says-whole w (past 2 says-first s (past 3 says-counted c (past 4 says-listed l (past 5 says-ranges r (stopped 6 _ (says-columns f) n)))))
-  answers (seven w s c l r k n) =
-      past 1 says-whole w (past 2 says-first s (past 3 says-counted c (past 4 says-listed l (past 5 says-ranges r (past 6 (says-columns f) k (stopped 7 _ (says-beams f) n))))))
+  pub sound-floor : Sound (floorChecks f)
+  unfolding floorChecks
+  sound-floor = says-whole then says-first then says-counted then says-listed then sound-values
 
 pub given : (n : ℕ) (f : List ℕ) → (refusal f ≡ n) ↔ Given n f
-given n f = (λ e. subst (λ m. Given m f) e (answered f), answers f)
+unfolding refusal
+given n f = answers (sound-floor f) n
+
+pub passes : (f : List ℕ) → refusal f ≡ 0 → Passes f
+unfolding refusal floorChecks valueChecks Holds
+passes f e =
+    let h : Holds (floorChecks f) = success (sound-floor f) .0 e in
+    record {
+      whole = h .0;
+      first = h .1 .0;
+      counted = h .1 .1 .0;
+      listed = h .1 .1 .1 .0;
+      ranged = h .1 .1 .1 .1 .0;
+      columns = h .1 .1 .1 .1 .1 .0;
+      beams = h .1 .1 .1 .1 .1 .1 .0;
+    }

@@ -9,13 +9,9 @@ use Rattle.records.specs.Meaning.{In, Materials, Loads, Column, Beam}
 use Rattle.plan.specs.declared.ways.Way.{Way}
 use Rattle.plan.specs.declared.ways.End.{End}
 use Rattle.plan.specs.Plan.{bays, thickness, strength, grade, dead, live, column, side, span, beamWidth, beamDepth, offset}
-use Rattle.floor.specs.Layouts.{layoutOf}
-use Rattle.floor.specs.Refusal.{refusal}
-use Rattle.floor.specs.Meaning.{Counted, ColumnsFit, Beamed, LaidOut, LayoutIs}
-
--- none of refusals 1 to 7
-pub record Accepted (f : List ℕ) : Type 0 where
-  pub accepted : refusal f ≡ 0
+use Rattle.layouts.specs.Layouts.{layoutOf}
+use Rattle.floor.specs.Meaning.{Counted}
+use Rattle.layouts.specs.Meaning.{ColumnsFit, Beamed, LaidOut, LayoutIs}
 
 pub record Fair (f : List ℕ) : Type 0 where
   pub whole : Counted f

@@ -1,5 +1,5 @@
-pub mod Layouts
+pub mod Meaning
 pub mod Refusal
 pub mod Passes
-pub mod Meaning
 pub mod Fair
+pub mod Asked

@@ -1,14 +1,26 @@
 // Refusals 1 to 7 of a floor file, in the order tried.
 ghost use mathlib.Core.Path.{_≡_};
-ghost use Prim.Native.Nat.{_≤_};
+ghost use Rattle.plan.specs.Asked.{InFile, Sized};
+ghost use Rattle.floor.specs.Asked.{Run, Complete};
+ghost use Rattle.records.specs.Kinds.{offsetKind};
 ghost use Rattle.floor.specs.declared.refusal.Check.the-variants.{Listed, Ranged};
-ghost use Rattle.floor.specs.Refusal.{lengthOk, headIs, firstOk, countOk, recordOk, kindOk, everyRecord, beamsOk, valuesRefusal, refusal};
-use crate::layout;
-use crate::layout::Rule;
+ghost use Rattle.floor.specs.Refusal.{lengthOk, headIs, firstOk, countOk, recordOk, kindOk, everyRecord, valuesRefusal, refusal};
+use layouts::Rule;
+use layouts::beams_ok;
+use layouts::kept;
 use numbers::both;
-use plan::fields::u16_at;
-use plan::fields::u32_at;
-use plan::ways::Way;
+use plan::fields::A;
+use plan::fields::B;
+use plan::fields::C;
+use plan::fields::index_at;
+use plan::fields::kind_at;
+use plan::fields::part_at;
+use plan::read::Bays;
+use plan::read::bays_of;
+use records::kinds::OFFSETS;
+use records::kinds::SIZES;
+use records::kinds::count_of;
+use records::kinds::start_of;
 
 // What is looked at in every record before the next is tried.
 pub enum Check {
@@ -23,52 +35,49 @@ fn length_ok(f: &[u8]) -> bool
 }
 
 fn head_is(f: &[u8], q: u32, k: u32, i: u32) -> bool
-    requires { ⌜ q ≤ 223 ⌝ }
+    requires { ⌜ InFile (now f) q ⌝ }
     ensures { λ r. ⌜ r ≡ headIs (now (f .entry)) q k i ⌝ }
 {
-    both(u16_at(f, q * 16) == k, u16_at(f, q * 16 + 2) == i)
+    both(kind_at(f, q) == k, index_at(f, q) == i)
 }
 
 fn first_ok(f: &[u8]) -> bool
+    requires { ⌜ InFile (now f) 0 ⌝ }
     ensures { λ r. ⌜ r ≡ firstOk (now (f .entry)) ⌝ }
 {
     both(
-        head_is(f, 0, 1, 0),
-        records::ranges::sizes_ok(u32_at(f, 4), u32_at(f, 8), u32_at(f, 12)),
+        head_is(f, 0, SIZES, 0),
+        records::ranges::sizes_ok(part_at(f, 0, A), part_at(f, 0, B), part_at(f, 0, C)),
     )
 }
 
-fn count_ok(f: &[u8]) -> bool
+fn count_ok(f: &[u8], b: Bays) -> bool
+    requires { ⌜ Sized (now f) b ⌝ }
     ensures { λ r. ⌜ r ≡ countOk (now (f .entry)) ⌝ }
 {
-    let n = records::kinds::total(plan::bays(f, Way::X), plan::bays(f, Way::Y));
+    let n = records::kinds::total(b.x, b.y);
     f.len() == (n as usize) * 16
 }
 
 fn listed(f: &[u8], k: u32, i: u32, q: u32) -> bool
-    requires { ⌜ q ≤ 223 ⌝ }
+    requires { ⌜ InFile (now f) q ⌝ }
     ensures { λ r. ⌜ r ≡ recordOk (now (f .entry)) Listed k i q ⌝ }
 {
     both(
         head_is(f, q, k, i),
-        records::kinds::unlisted_zero(k, u32_at(f, q * 16 + 8), u32_at(f, q * 16 + 12)),
+        records::kinds::unlisted_zero(k, part_at(f, q, B), part_at(f, q, C)),
     )
 }
 
 fn ranged(f: &[u8], k: u32, i: u32, q: u32) -> bool
-    requires { ⌜ q ≤ 223 ⌝ }
+    requires { ⌜ InFile (now f) q ⌝ }
     ensures { λ r. ⌜ r ≡ recordOk (now (f .entry)) Ranged k i q ⌝ }
 {
-    records::ranges::values_ok(
-        k,
-        u32_at(f, q * 16 + 4),
-        u32_at(f, q * 16 + 8),
-        u32_at(f, q * 16 + 12),
-    )
+    records::ranges::values_ok(k, part_at(f, q, A), part_at(f, q, B), part_at(f, q, C))
 }
 
 fn record_ok(f: &[u8], check: Check, k: u32, i: u32, q: u32) -> bool
-    requires { ⌜ q ≤ 223 ⌝ }
+    requires { ⌜ InFile (now f) q ⌝ }
     ensures { λ r. ⌜ r ≡ recordOk (now (f .entry)) check k i q ⌝ }
 {
     match check {
@@ -78,7 +87,7 @@ fn record_ok(f: &[u8], check: Check, k: u32, i: u32, q: u32) -> bool
 }
 
 fn kind_ok(f: &[u8], check: Check, k: u32, from: u32, n: u32) -> bool
-    requires { ⌜ (from ≤ 54) × (n ≤ 169) ⌝ }
+    requires { ⌜ Run (now f) from n ⌝ }
     ensures { λ r. ⌜ r ≡ kindOk (now (f .entry)) check k from n ⌝ }
 {
     let mut i: u32 = 0;
@@ -91,43 +100,54 @@ fn kind_ok(f: &[u8], check: Check, k: u32, from: u32, n: u32) -> bool
     true
 }
 
-fn every_record(f: &[u8], check: Check) -> bool
-    ensures { λ r. ⌜ r ≡ everyRecord (now (f .entry)) check ⌝ }
+// The offsets, most of the records: here the kind is known to the compiler, so a turn of the loop asks for none.
+fn offsets_ok(f: &[u8], check: Check, from: u32, n: u32) -> bool
+    requires { ⌜ Run (now f) from n ⌝ }
+    ensures { λ r. ⌜ r ≡ kindOk (now (f .entry)) check offsetKind from n ⌝ }
 {
-    let nx = plan::bays(f, Way::X);
-    let ny = plan::bays(f, Way::Y);
-    let mut k: u32 = 0;
-    while k < 10 {
-        let from = records::kinds::start_of(nx, ny, k);
-        let n = records::kinds::count_of(nx, ny, k);
-        if !kind_ok(f, check, k, from, n) {
+    let mut i: u32 = 0;
+    while i < n {
+        if !record_ok(f, check, OFFSETS, i, from + i) {
             return false;
         }
-        k += 1;
+        i += 1;
     }
     true
 }
 
-fn beams_ok(f: &[u8]) -> bool
-    ensures { λ r. ⌜ r ≡ beamsOk (now (f .entry)) ⌝ }
+fn every_record(f: &[u8], b: Bays, check: Check) -> bool
+    requires { ⌜ Complete (now f) b ⌝ }
+    ensures { λ r. ⌜ r ≡ everyRecord (now (f .entry)) check ⌝ }
 {
-    both(
-        layout::kept(f, Rule::Beams(layout::layout_of(f))),
-        layout::kept(f, Rule::Depth),
+    let nx = b.x;
+    let ny = b.y;
+    let mut k: u32 = 0;
+    while k < OFFSETS {
+        if !kind_ok(f, check, k, start_of(nx, ny, k), count_of(nx, ny, k)) {
+            return false;
+        }
+        k += 1;
+    }
+    offsets_ok(
+        f,
+        check,
+        start_of(nx, ny, OFFSETS),
+        count_of(nx, ny, OFFSETS),
     )
 }
 
 // 5 to 7, which a change tries again on the changed floor.
-pub fn values_refusal(f: &[u8]) -> u32
+pub fn values_refusal(f: &[u8], b: Bays) -> u32
+    requires { ⌜ Complete (now f) b ⌝ }
     ensures { λ r. ⌜ r ≡ valuesRefusal (now (f .entry)) ⌝ }
 {
-    if !every_record(f, Check::Ranged) {
+    if !every_record(f, b, Check::Ranged) {
         return 5;
     }
-    if !layout::kept(f, Rule::Columns) {
+    if !kept(f, b, Rule::Columns) {
         return 6;
     }
-    if !beams_ok(f) {
+    if !beams_ok(f, b) {
         return 7;
     }
     0
@@ -143,11 +163,12 @@ pub fn refusal(f: &[u8]) -> u32
     if !first_ok(f) {
         return 2;
     }
-    if !count_ok(f) {
+    let b = bays_of(f);
+    if !count_ok(f, b) {
         return 3;
     }
-    if !every_record(f, Check::Listed) {
+    if !every_record(f, b, Check::Listed) {
         return 4;
     }
-    values_refusal(f)
+    values_refusal(f, b)
 }

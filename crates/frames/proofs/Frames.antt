@@ -13,46 +13,54 @@ use Rattle.numbers.proofs.Written.{from-none, from-run}
 use Rattle.records.proofs.Places.{count-most}
 use Rattle.plan.specs.declared.ways.Way.{Way}
 use Rattle.plan.specs.declared.ways.Way.the-variants.{X, Y}
+use Rattle.plan.specs.Ways.{pick, across}
 use Rattle.plan.specs.Plan.{bays, lastLine}
 use Rattle.plan.proofs.Reading.{bays-most}
 use Rattle.floor.proofs.Fair.{fair}
-use Rattle.spans.specs.declared.view.SlabView.{SlabView}
+use Rattle.lines.specs.declared.slab.Slab.{Slab}
+use Rattle.lines.specs.Rows.{rowOf}
+use Rattle.spans.proofs.AtHand.{along-of}
 use Rattle.tables.specs.declared.named.Spans.{Spans}
 use Rattle.tables.specs.Width.{recordWidth}
 use Rattle.tables.specs.Places.{firstOf, lineFirst}
-use Rattle.tables.specs.Named.{namedSpans, namedAt, Naming}
+use Rattle.tables.specs.Named.{namedSpans, namedAt}
+use Rattle.tables.specs.Asked.{Naming}
 use Rattle.tables.proofs.Numbered.{lines-sum-y}
 use Rattle.tables.proofs.Meaning.{to-most, from-most, line-written}
-use Rattle.frames.specs.Held.{Slabbed, AtLine, AtSpans}
-use Rattle.frames.specs.Table.{recordAt, renamed}
+use Rattle.frames.specs.Asked.{InTable, InFrames, AtLine, AtSpans}
+use Rattle.frames.specs.Table.{recordAt, namedWritten}
+use Rattle.frames.proofs.Spans.{standing-in}
 
 -- ---- one line
 
-module _ (f t : List ℕ) (slab : SlabView) (kind index : ℕ) (d : Way) (l : ℕ) (h : AtLine f t slab kind index d l) where
+module _ (f t : List ℕ) (slab : Slab) (a : List ℕ) (kind index : ℕ) (d : Way) (l : ℕ) (h : AtLine f t slab a kind index d l) where
   some-span : 1 ≤ bays f d
-  some-span = fair f (h .floor .standing .accepted) .bays-in d .0
+  some-span = fair f (h .frames .standing .accepted) .bays-in d .0
 
-  pub naming : {n : ℕ} → n ≡ bays f d → Naming n index
+  count-is : {n : ℕ} → n ≡ pick d (slab .bays .x) (slab .bays .y) → n ≡ bays f d
+  count-is e = e ∙ along-of f (h .frames .standing .shared) d
+
+  pub naming : {n : ℕ} → n ≡ pick d (slab .bays .x) (slab .bays .y) → Naming n index
   naming e =
       record {
-        least = rw e some-span;
-        index-most = omega (arith, h .floor .asked .there, count-most (bays f X) (bays f Y) (record { x = bays-most f X; y = bays-most f Y }) kind);
+        least = rw (count-is e) some-span;
+        index-most = omega (arith, h .frames .listed .there, count-most (bays f X) (bays f Y) (record { x = bays-most f X; y = bays-most f Y }) kind);
       }
 
-  module _ {n : ℕ} {spans : Spans} (e : n ≡ bays f d) (q : spans ≡ namedSpans kind index d l n) where
-    pub at-spans : AtSpans f t slab d l spans
+  module _ {n : ℕ} {spans : Spans} (e : n ≡ pick d (slab .bays .x) (slab .bays .y)) (q : spans ≡ namedSpans kind index d l n) where
+    pub at-spans : AtSpans f t slab a d l spans
     at-spans =
         record {
-          standing = h .floor .standing;
-          slab-is = h .floor .slab-is;
+          standing = h .frames .standing;
+          alphas = h .frames .alphas;
           line = h .line;
           order = rw q (from-most kind index d l n);
-          most = rw (q, e) (to-most f kind index d l (h .floor .asked .there) some-span);
+          most = rw (q, count-is e) (to-most f kind index d l (h .frames .listed .there) some-span);
         }
 
     pub line-is : writtenFrom recordWidth every (recordAt f) (lineFirst f d l + spans .from) (spans .to - spans .from) t
         ≡ writtenFrom recordWidth (namedAt f kind index) (recordAt f) (lineFirst f d l) (bays f d) t
-    line-is = rw (q, e) (sym (line-written f kind index recordWidth (recordAt f) d l t (h .line) (h .floor .asked .there) some-span))
+    line-is = rw (q, count-is e) (sym (line-written f kind index recordWidth (recordAt f) d l t (h .line) (h .frames .listed .there) some-span))
 
     -- a line of which no span is named
     pub line-left : spans .to ≤ spans .from → t ≡ writtenFrom recordWidth (namedAt f kind index) (recordAt f) (lineFirst f d l) (bays f d) t
@@ -64,18 +72,16 @@ module _ (f t : List ℕ) (slab : SlabView) (kind index : ℕ) (d : Way) (l : �
 
 -- ---- the lines of a direction
 
-module _ (f t : List ℕ) (slab : SlabView) (kind index : ℕ) (d : Way) (h : Slabbed f t slab kind index) where
-  pub at-line : (u : List ℕ) {l : ℕ} → length u ≡ length t → l ≤ lastLine f d → AtLine f u slab kind index d l
+module _ (f t : List ℕ) (slab : Slab) (a : List ℕ) (kind index : ℕ) (d : Way) (h : InFrames f t slab a kind index d) where
+  pub at-line : (u : List ℕ) {l : ℕ} → length u ≡ length t → l ≤ lastLine f d → AtLine f u slab a kind index d l
   at-line u e q =
       record {
-        floor =
-            record {
-              standing = record { accepted = h .standing .accepted; clear = h .standing .clear; table = record { room = omega (arith, h .standing .table .room) } };
-              slab-is = h .slab-is;
-              asked = h .asked;
-            };
+        frames = record { standing = standing-in f t slab (h .standing) u e; alphas = h .alphas; listed = h .listed };
         line = q;
       }
+
+  pub last-is : {n : ℕ} {over : Way} → over ≡ across d → n ≡ pick over (slab .bays .x) (slab .bays .y) → n ≡ lastLine f d
+  last-is q e = e ∙ rw q (along-of f (h .standing .shared) (across d))
 
   pub no-line : t ≡ writtenFrom recordWidth (namedAt f kind index) (recordAt f) (firstOf f d) (0 * bays f d) t
   no-line = rw (zero-mul (bays f d)) (sym (from-none recordWidth (namedAt f kind index) (recordAt f) (firstOf f d) t))
@@ -89,11 +95,15 @@ module _ (f t : List ℕ) (slab : SlabView) (kind index : ℕ) (d : Way) (h : Sl
 
 -- ---- both directions
 
+pub in-frames : (f t : List ℕ) (slab : Slab) (a : List (List ℕ)) {kind index : ℕ} → InTable f t slab a kind index
+    → (d : Way) (u : List ℕ) → length u ≡ length t → InFrames f u slab (rowOf a d) kind index d
+in-frames f t slab a h d u e = record { standing = standing-in f t slab (h .standing) u e; alphas = h .alphas d; listed = h .listed }
+
 pub both-ways : (f : List ℕ) (kind index : ℕ) (t : List ℕ) {u v : List ℕ}
     → u ≡ writtenFrom recordWidth (namedAt f kind index) (recordAt f) (firstOf f X) ((lastLine f X + 1) * bays f X) t
     → v ≡ writtenFrom recordWidth (namedAt f kind index) (recordAt f) (firstOf f Y) ((lastLine f Y + 1) * bays f Y) u
-    → v ≡ renamed f kind index t
-unfolding renamed
+    → v ≡ namedWritten f kind index t
+unfolding namedWritten
 both-ways f kind index t e q =
     q ∙ rw e (rw (zero-add (firstOf f Y)) at (from-run recordWidth (namedAt f kind index) (recordAt f) 0 (firstOf f Y) ((lastLine f Y + 1) * bays f Y) t))
     ∙ ap (λ n. writtenFrom recordWidth (namedAt f kind index) (recordAt f) 0 n t) (lines-sum-y f)

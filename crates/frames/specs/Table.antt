@@ -5,7 +5,7 @@ use mathlib.Core.List.{List}
 use Rattle.numbers.specs.Records.{written}
 use Rattle.spans.specs.declared.view.View.{View}
 use Rattle.spans.specs.Views.{viewOf}
-use Rattle.spans.specs.Sixteen.{sixteen}
+use Rattle.spans.specs.Record.{recordOf}
 use Rattle.tables.specs.Width.{recordWidth}
 use Rattle.tables.specs.Places.{Place, placeOf, recordCount}
 use Rattle.tables.specs.Named.{namedAt}
@@ -19,8 +19,8 @@ viewAt f k = viewIn f (placeOf f k)
 
 -- record k's right value
 abbrev pub recordAt : List ℕ → ℕ → List ℕ
-recordAt f k = sixteen (viewAt f k)
+recordAt f k = recordOf (viewAt f k)
 
 -- the table with the records that a change of this kind and index names worked out afresh
-unfoldable pub renamed : List ℕ → ℕ → ℕ → List ℕ → List ℕ
-renamed f kind index t = written recordWidth (namedAt f kind index) (recordAt f) (recordCount f) t
+unfoldable pub namedWritten : List ℕ → ℕ → ℕ → List ℕ → List ℕ
+namedWritten f kind index t = written recordWidth (namedAt f kind index) (recordAt f) (recordCount f) t

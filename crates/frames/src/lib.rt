@@ -6,27 +6,30 @@ ghost use Rattle.plan.specs.Plan.{bays, lastLine};
 ghost use Rattle.tables.specs.Width.{recordWidth};
 ghost use Rattle.tables.specs.Places.{firstOf, lineFirst};
 ghost use Rattle.tables.specs.Named.{namedAt};
-ghost use Rattle.frames.specs.Held.{Standing, Asked, Slabbed, AtLine, AtSpans, AtSpan};
-ghost use Rattle.frames.specs.Table.{recordAt, renamed};
+ghost use Rattle.frames.specs.Asked.{InTable, InFrames, AtLine, AtSpans, AtSpan};
+ghost use Rattle.frames.specs.Table.{recordAt, namedWritten};
+use lines::line::X;
+use lines::line::Y;
+use lines::slab::Slab;
+use plan::read::along;
 use plan::ways::Way;
+use plan::ways::across;
 use spans::record::record;
 use spans::view::LineView;
-use spans::view::SlabView;
 use spans::view::line_view;
-use spans::view::slab_view;
 use spans::view::span_view;
 use spans::work::LineWork;
 use spans::work::line_work;
 use tables::named::Spans;
 use tables::named::named_spans;
-use tables::places::first_of;
+use tables::places::line_first;
 use tables::write::write_record;
 
 // Record k, of span s along d, where what its line shares is at hand.
 fn write_span(
     f: &[u8],
     table: &mut [u32],
-    slab: SlabView,
+    slab: Slab,
     line: LineView,
     work: LineWork,
     d: Way,
@@ -36,18 +39,27 @@ fn write_span(
     requires { ⌜ AtSpan (now f) (now table) slab line work d s k ⌝ }
     ensures { λ _. ⌜ now (table .exit) ≡ put recordWidth k (recordAt (now (f .entry)) k) (now (table .entry)) ⌝ }
 {
-    let v = span_view(f, d, slab, line, s);
+    let v = span_view(f, slab, line, d, s);
     write_record(table, k as usize, record(v, work));
 }
 
 // Some spans of line l along d. What they share is read and worked out once.
-fn write_spans(f: &[u8], table: &mut [u32], slab: SlabView, d: Way, l: u32, spans: Spans)
-    requires { ⌜ AtSpans (now f) (now table) slab d l spans ⌝ }
+fn write_spans(
+    f: &[u8],
+    table: &mut [u32],
+    slab: Slab,
+    alphas: &[u64; 13],
+    d: Way,
+    l: u32,
+    spans: Spans,
+)
+    requires { ⌜ AtSpans (now f) (now table) slab (now alphas) d l spans ⌝ }
     ensures { λ _. ⌜ now (table .exit) ≡ writtenFrom recordWidth every (recordAt (now (f .entry))) (lineFirst (now (f .entry)) d l + spans .from) (spans .to - spans .from) (now (table .entry)) ⌝ }
 {
-    let first = first_of(f, d) + l * plan::bays(f, d);
-    let line = line_view(f, d, l);
-    let work = line_work(line, slab.t);
+    let first = line_first(slab.bays, d, l);
+    let line = line_view(f, slab, d, l);
+    let at = l as usize;
+    let work = line_work(line, alphas[at]);
     let to = spans.to;
     let mut s = spans.from;
     while s < to {
@@ -57,35 +69,57 @@ fn write_spans(f: &[u8], table: &mut [u32], slab: SlabView, d: Way, l: u32, span
 }
 
 // A line of which no span is named is not even read.
-fn write_line(f: &[u8], table: &mut [u32], slab: SlabView, kind: u32, index: u32, d: Way, l: u32)
-    requires { ⌜ AtLine (now f) (now table) slab kind index d l ⌝ }
+fn write_line(
+    f: &[u8],
+    table: &mut [u32],
+    slab: Slab,
+    alphas: &[u64; 13],
+    kind: u32,
+    index: u32,
+    d: Way,
+    l: u32,
+)
+    requires { ⌜ AtLine (now f) (now table) slab (now alphas) kind index d l ⌝ }
     ensures { λ _. ⌜ now (table .exit) ≡ writtenFrom recordWidth (namedAt (now (f .entry)) kind index) (recordAt (now (f .entry))) (lineFirst (now (f .entry)) d l) (bays (now (f .entry)) d) (now (table .entry)) ⌝ }
 {
-    let spans = named_spans(kind, index, d, l, plan::bays(f, d));
+    let spans = named_spans(kind, index, d, l, along(slab.bays, d));
     if spans.from < spans.to {
-        write_spans(f, table, slab, d, l, spans);
+        write_spans(f, table, slab, alphas, d, l, spans);
     }
 }
 
-fn write_lines(f: &[u8], table: &mut [u32], slab: SlabView, kind: u32, index: u32, d: Way)
-    requires { ⌜ Slabbed (now f) (now table) slab kind index ⌝ }
+fn write_lines(
+    f: &[u8],
+    table: &mut [u32],
+    slab: Slab,
+    alphas: &[u64; 13],
+    kind: u32,
+    index: u32,
+    d: Way,
+)
+    requires { ⌜ InFrames (now f) (now table) slab (now alphas) kind index d ⌝ }
     ensures { λ _. ⌜ now (table .exit) ≡ writtenFrom recordWidth (namedAt (now (f .entry)) kind index) (recordAt (now (f .entry))) (firstOf (now (f .entry)) d) ((lastLine (now (f .entry)) d + 1) * bays (now (f .entry)) d) (now (table .entry)) ⌝ }
 {
-    let last = plan::last_line(f, d);
+    let last = along(slab.bays, across(d));
     let mut l: u32 = 0;
     while l <= last {
-        write_line(f, table, slab, kind, index, d, l);
+        write_line(f, table, slab, alphas, kind, index, d, l);
         l += 1;
     }
 }
 
-// The records that a change of this kind and index names; every other number is as it was.
-pub fn write_named(f: &[u8], table: &mut [u32], kind: u32, index: u32)
-    requires { ⌜ Standing (now f) (now table) ⌝ }
-    requires { ⌜ Asked (now f) kind index ⌝ }
-    ensures { λ _. ⌜ now (table .exit) ≡ renamed (now (f .entry)) kind index (now (table .entry)) ⌝ }
+// The records that a change of this kind and index names, of a floor whose slab and α are at hand; every other number is as it was.
+pub fn write_named(
+    f: &[u8],
+    table: &mut [u32],
+    slab: Slab,
+    alphas: &[[u64; 13]; 2],
+    kind: u32,
+    index: u32,
+)
+    requires { ⌜ InTable (now f) (now table) slab (now alphas) kind index ⌝ }
+    ensures { λ _. ⌜ now (table .exit) ≡ namedWritten (now (f .entry)) kind index (now (table .entry)) ⌝ }
 {
-    let slab = slab_view(f);
-    write_lines(f, table, slab, kind, index, Way::X);
-    write_lines(f, table, slab, kind, index, Way::Y);
+    write_lines(f, table, slab, &alphas[X], kind, index, Way::X);
+    write_lines(f, table, slab, &alphas[Y], kind, index, Way::Y);
 }

@@ -3,18 +3,19 @@
 use mathlib.Core.List.{[]}
 use mathlib.Core.Path.{_≡_, refl}
 use Rattle.numbers.specs.Figures.{wrong}
-use Rattle.rules.specs.Sections.{inertia, torsion, flange, edgeTorsion}
-use Rattle.rules.specs.Lines.{alpha}
-use Rattle.rules.specs.LeastThickness.{stiff, middling, tabled, leastThickness}
+use Rattle.stiffness.specs.Sections.{inertia, torsion, flange, edgeTorsion}
+use Rattle.stiffness.specs.Lines.{alpha}
+use Rattle.thickness.specs.LeastThickness.{stiff, middling, tabled, leastThickness}
 use Rattle.strips.specs.Moments.{staticMoment}
 use Rattle.strips.specs.Ratios.{torsionRatio}
 use Rattle.strips.specs.Strips.{part, outerNegative, beamShare, split}
-use Rattle.steel.specs.Query.{depthListed, gradeListed, inRange, defaultDepth, depthOf}
+use Rattle.records.specs.Ranges.{materialsOk}
+use Rattle.steel.specs.Query.{depthListed, inRange, depthOf}
 use Rattle.steel.specs.Area.{K}
 use Rattle.steel.specs.Search.{first, firstWithin, leastWithin}
-use Rattle.steel.specs.Steel.{minimumArea, strainArea, limitsAt, steelOf}
+use Rattle.steel.specs.Steel.{minimumArea, strainArea, limitsOf, steelOf}
 use Rattle.gandhrumil.specs.Figures.{figures}
 
 pub figures-hold : wrong figures ≡ []
-unfolding figures inertia torsion flange edgeTorsion alpha stiff middling tabled leastThickness staticMoment torsionRatio part outerNegative beamShare split depthListed gradeListed inRange defaultDepth depthOf K first firstWithin leastWithin minimumArea strainArea limitsAt steelOf
+unfolding figures inertia torsion flange edgeTorsion alpha stiff middling tabled leastThickness staticMoment torsionRatio part outerNegative beamShare split materialsOk depthListed inRange depthOf K first firstWithin leastWithin minimumArea strainArea limitsOf steelOf
 figures-hold = refl

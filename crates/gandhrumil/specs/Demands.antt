@@ -6,37 +6,38 @@ use Prim.Native.Nat.{ℕ, _<_}
 use mathlib.Core.List.{List}
 use mathlib.Core.Logic.{_↔_}
 use mathlib.Core.Path.{_≡_}
-use lib.ListN.{length}
 use Rattle.numbers.specs.Least.{Least}
-use Rattle.floor.specs.Refusal.{refusal}
-use Rattle.floor.specs.Meaning.{Given}
+use Rattle.floor.specs.Refusal.{refusal, Given}
 use Rattle.changes.specs.Change.{changeKind, changeIndex}
-use Rattle.verdict.specs.declared.Answer.{Answer}
-use Rattle.verdict.specs.Limits.{verdict}
-use Rattle.verdict.specs.Meaning.{Broken}
+use Rattle.answers.specs.declared.Answer.{Answer}
+use Rattle.limits.specs.Limits.{verdict}
+use Rattle.limits.specs.Meaning.{Broken}
 use Rattle.verdict.specs.Answers.{panelOf, PanelAnswer}
 use Rattle.tables.specs.Width.{recordWidth}
 use Rattle.tables.specs.Places.{Place, Inside}
+use Rattle.moments.specs.Lent.{Lent}
 use Rattle.moments.specs.Opening.{Opened}
 use Rattle.moments.specs.Changing.{Changed}
-use Rattle.moments.specs.Meaning.{GivenOpening, GivenChanging, numberIn, rightNumber, AddsUp, NamedOf}
+use Rattle.moments.specs.Meaning.{GivenOpening, GivenChanging, Earned, numberIn, rightNumber, AddsUp, LentNamed}
 use Rattle.moments.specs.Mornings.{Morning, Held}
+use Rattle.steel.specs.declared.query.Query.{Query}
 use Rattle.steel.specs.Query.{InRange}
-use Rattle.steel.specs.Steel.{Fits, steelOf}
+use Rattle.steel.specs.Area.{Fits}
+use Rattle.steel.specs.Steel.{steelOf}
 
 -- "Every input gets an answer: a floor file, a change, a panel or a steel query, however damaged. Nothing relies on the caller having looked first.
 -- A refusal carries its number from the table, and the lent floor and moment table keep what they held."
 -- Bytes, slices and numbers are any; that there is an answer is that the functions ask nothing and return.
 pub record DemandOne : Type 0 where
-  pub opening : {f t : List ℕ} {a : Answer} {after : List ℕ} → Opened f t a after
-      → GivenOpening f (length t) (a .refusal) × (¬ (a .refusal ≡ 0) → (a .value ≡ 255) × (after ≡ t))
-  pub change : {f t c : List ℕ} {a : Answer} {floor-after table-after : List ℕ} → Changed f t c a floor-after table-after
-      → GivenChanging f (length t) c (a .refusal) × (¬ (a .refusal ≡ 0) → (a .value ≡ 255) × (floor-after ≡ f) × (table-after ≡ t))
+  pub opening : {f : List ℕ} {l l′ : Lent} {a : Answer} → Opened f l a l′
+      → GivenOpening f l (a .refusal) × Earned a × (¬ (a .refusal ≡ 0) → l′ ≡ l)
+  pub change : {f c f′ : List ℕ} {l l′ : Lent} {a : Answer} → Changed f l c a f′ l′
+      → GivenChanging f l c (a .refusal) × Earned a × (¬ (a .refusal ≡ 0) → (f′ ≡ f) × (l′ ≡ l))
   pub panel : (f : List ℕ) (x y : ℕ) → PanelAnswer f x y (panelOf f x y)
-  pub steel : (M b t d fc fy : ℕ)
-      → ((steelOf M b t d fc fy .refusal ≡ 11) ↔ ¬ InRange M b t d fc fy)
-      × ((steelOf M b t d fc fy .refusal ≡ 12) ↔ (InRange M b t d fc fy × ((As : ℕ) → ¬ Fits M b t d fc fy As)))
-      × (¬ (steelOf M b t d fc fy .refusal ≡ 0) → steelOf M b t d fc fy .value ≡ 0)
+  pub steel : (q : Query)
+      → ((steelOf q .refusal ≡ 11) ↔ ¬ InRange q)
+      × ((steelOf q .refusal ≡ 12) ↔ (InRange q × ((As : ℕ) → ¬ Fits q As)))
+      × (¬ (steelOf q .refusal ≡ 0) → steelOf q .value ≡ 0)
 
 -- "A floor is accepted exactly when document 01's rules accept it. The verdict names exactly the limits that are broken, and whether the slab is
 -- too thin. With none broken and the slab thick enough, each beam, slab and middle strip moment is the one the rules give, and the three add up to
@@ -44,21 +45,20 @@ pub record DemandOne : Type 0 where
 -- there is none."
 pub record DemandTwo : Type 0 where
   pub accepted : (f : List ℕ) → (refusal f ≡ 0) ↔ Given 0 f
-  pub verdict-opening : {f t : List ℕ} {a : Answer} {after : List ℕ} → Opened f t a after → a .refusal ≡ 0 → Broken f (a .value)
-  pub verdict-change : {f t c : List ℕ} {a : Answer} {floor-after table-after : List ℕ} → Changed f t c a floor-after table-after
-      → a .refusal ≡ 0 → Broken floor-after (a .value)
-  pub moments : {f t : List ℕ} {a : Answer} {after : List ℕ} → Opened f t a after → a .refusal ≡ 0 → a .value ≡ 0
-      → (p : Place) → Inside f p → ((n : ℕ) → n < recordWidth → numberIn f after p n ≡ rightNumber f p n) × AddsUp f after p
-  pub steel : (M b t d fc fy : ℕ) → InRange M b t d fc fy
-      → ((steelOf M b t d fc fy .refusal ≡ 12) ↔ ((As : ℕ) → ¬ Fits M b t d fc fy As))
-      × (steelOf M b t d fc fy .refusal ≡ 0 → Least (Fits M b t d fc fy) (steelOf M b t d fc fy .value))
+  pub verdict-opening : {f : List ℕ} {l l′ : Lent} {a : Answer} → Opened f l a l′ → a .refusal ≡ 0 → Broken f (a .value)
+  pub verdict-change : {f c f′ : List ℕ} {l l′ : Lent} {a : Answer} → Changed f l c a f′ l′ → a .refusal ≡ 0 → Broken f′ (a .value)
+  pub moments : {f : List ℕ} {l l′ : Lent} {a : Answer} → Opened f l a l′ → a .refusal ≡ 0 → a .value ≡ 0
+      → (p : Place) → Inside f p → ((n : ℕ) → n < recordWidth → numberIn f (l′ .table) p n ≡ rightNumber f p n) × AddsUp f (l′ .table) p
+  pub steel : (q : Query) → InRange q
+      → ((steelOf q .refusal ≡ 12) ↔ ((As : ℕ) → ¬ Fits q As))
+      × (steelOf q .refusal ≡ 0 → Least (Fits q) (steelOf q .value))
 
 -- "Start from an accepted floor whose table was filled by the program and make any run of changes, refused ones among them, with nobody else writing
 -- to either. The floor is then the first one with each change not refused put in its place in turn, the table equals that floor's table worked out
 -- afresh, and each change not refused gave the verdict of the floor it made. Where the verdict is clear before and after a change, only the records
 -- document 01 names for it are written."
 pub record DemandThree : Type 0 where
-  pub morning : {f t u g w : List ℕ} {a : Answer} {cs : List (List ℕ)} {rs : List Answer}
-      → Opened f t a u → a .refusal ≡ 0 → Morning f u cs rs g w → Held f t cs rs g w
-  pub written : {f t c : List ℕ} {a : Answer} {floor-after table-after : List ℕ} → Changed f t c a floor-after table-after
-      → a .refusal ≡ 0 → verdict f ≡ 0 → verdict floor-after ≡ 0 → NamedOf floor-after (changeKind c) (changeIndex c) t table-after
+  pub morning : {f f′ : List ℕ} {l l₁ l′ : Lent} {a : Answer} {cs : List (List ℕ)} {rs : List Answer}
+      → Opened f l a l₁ → a .refusal ≡ 0 → Morning f l₁ cs rs f′ l′ → Held f l cs rs f′ l′
+  pub written : {f c f′ : List ℕ} {l l′ : Lent} {a : Answer} → Changed f l c a f′ l′
+      → a .refusal ≡ 0 → verdict f ≡ 0 → verdict f′ ≡ 0 → LentNamed f′ (changeKind c) (changeIndex c) l l′

@@ -4,14 +4,16 @@ use mathlib.Core.Bool.{true, false}
 use mathlib.Core.List.{List, [], _∷_}
 use Prim.Native.Nat.{ℕ}
 use Rattle.numbers.specs.Figures.{Figure, figure}
-use Rattle.rules.specs.declared.thickness.Place.the-variants.{Inner}
-use Rattle.rules.specs.Sections.{edgeTorsion}
-use Rattle.rules.specs.Lines.{alpha}
-use Rattle.rules.specs.LeastThickness.{leastThickness}
+use Rattle.thickness.specs.declared.Panel.{Panel}
+use Rattle.thickness.specs.declared.PanelPlace.the-variants.{Inner}
+use Rattle.stiffness.specs.Sections.{edgeTorsion}
+use Rattle.stiffness.specs.Lines.{alpha}
+use Rattle.thickness.specs.LeastThickness.{leastThickness}
 use Rattle.strips.specs.declared.strip.Strips.{Strips}
 use Rattle.strips.specs.Moments.{staticMoment}
 use Rattle.strips.specs.Ratios.{torsionRatio}
 use Rattle.strips.specs.Strips.{between, innerNegative, outerNegative, columnStrip, split}
+use Rattle.steel.specs.Query.{queryOf}
 use Rattle.steel.specs.Steel.{steelOf}
 
 -- "Total 38,290,000, part 8131, A 10000"
@@ -20,7 +22,11 @@ strips = split 38290000 (columnStrip 38290000 8131) 10000
 
 -- "b 1,000, t 150, d 124, fc 30, fy 420"; neither is refused, since "refused queries answer 0 mm or 0 mm²"
 abbrev area : ℕ → ℕ
-area M = steelOf M 1000 150 124 30 420 .value
+area M = steelOf (queryOf M 1000 150 124 30 420) .value
+
+-- "fy 420", beams everywhere
+abbrev panel : ℕ → ℕ → ℕ → Panel
+panel sn ln S = record { everywhere = true; place = Inner; fy = 420; sn = sn; ln = ln; s = S }
 
 unfoldable pub figures : List Figure
 figures =
@@ -43,8 +49,8 @@ figures =
     ∷ figure "middle strip of that total" (strips .middle) 7156401
     ∷ figure "beam of that column strip, A 10000" (strips .beam) 26463559
     ∷ figure "slab of that column strip" (strips .slab) 4670040
-    ∷ figure "least thickness, fy 420: 6,300 by 5,000, S 92,000" (leastThickness true Inner 420 5000 6300 92000) 147
-    ∷ figure "least thickness, fy 420: 5,500 by 5,000, S 68,000" (leastThickness true Inner 420 5000 5500 68000) 137
+    ∷ figure "least thickness, fy 420: 6,300 by 5,000, S 92,000" (leastThickness (panel 5000 6300 92000)) 147
+    ∷ figure "least thickness, fy 420: 5,500 by 5,000, S 68,000" (leastThickness (panel 5000 5500 68000)) 137
     ∷ figure "As of M 2,195,000, b 1,000, t 150, d 124, fc 30, fy 420" (area 2195000) 484
     ∷ figure "As of M 0" (area 0) 270
     ∷ []

@@ -2,15 +2,18 @@
 // its own to what the layer below promises.
 ghost use mathlib.Core.Path.{_≡_};
 ghost use Rattle.verdict.specs.Answers.{panelOf};
+ghost use Rattle.moments.specs.Lent.{lent};
 ghost use Rattle.moments.specs.Opening.{Opened};
 ghost use Rattle.moments.specs.Changing.{Changed};
+ghost use Rattle.steel.specs.Query.{queryOf};
 ghost use Rattle.steel.specs.Steel.{steelOf};
-use verdict::Answer;
+use answers::Answer;
+use steel::query::Query;
 
 // Opens a floor: its refusal, or its verdict and its table.
 #[no_mangle]
 pub extern "C" fn gandhrumil_open(floor: &[u8], table: &mut [u32]) -> Answer
-    ensures { λ r. ⌜ Opened (now (floor .entry)) (now (table .entry)) r (now (table .exit)) ⌝ }
+    ensures { λ r. ⌜ Opened (now (floor .entry)) (lent (now (table .entry))) r (lent (now (table .exit))) ⌝ }
 {
     moments::open(floor, table)
 }
@@ -18,7 +21,7 @@ pub extern "C" fn gandhrumil_open(floor: &[u8], table: &mut [u32]) -> Answer
 // A change to a floor and its table: refused, and neither is touched, or taken, with the verdict of the floor it made.
 #[no_mangle]
 pub extern "C" fn gandhrumil_change(floor: &mut [u8], table: &mut [u32], change: &[u8]) -> Answer
-    ensures { λ r. ⌜ Changed (now (floor .entry)) (now (table .entry)) (now (change .entry)) r (now (floor .exit)) (now (table .exit)) ⌝ }
+    ensures { λ r. ⌜ Changed (now (floor .entry)) (lent (now (table .entry))) (now (change .entry)) r (now (floor .exit)) (lent (now (table .exit))) ⌝ }
 {
     moments::change(floor, table, change)
 }
@@ -34,7 +37,14 @@ pub extern "C" fn gandhrumil_panel(floor: &[u8], x: u64, y: u64) -> Answer
 // The least whole area of steel in mm² for the moment m, in N·cm, on a width b of a slab of thickness t.
 #[no_mangle]
 pub extern "C" fn gandhrumil_steel(m: u64, b: u64, t: u64, d: u64, fc: u64, fy: u64) -> Answer
-    ensures { λ r. ⌜ r ≡ steelOf m b t d fc fy ⌝ }
+    ensures { λ r. ⌜ r ≡ steelOf (queryOf m b t d fc fy) ⌝ }
 {
-    steel::steel(m, b, t, d, fc, fy)
+    steel::steel(Query {
+        m: m,
+        b: b,
+        t: t,
+        d: d,
+        fc: fc,
+        fy: fy,
+    })
 }

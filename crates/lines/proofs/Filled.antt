@@ -1,118 +1,196 @@
--- What is read of a floor's panels once for all of them.
---     Filled, one-more             the first n numbers of an array, one after another
---     filled                       α of all lines along d
+-- What is read of a floor's lines and panels once for all of them.
+--     Filled, one-more             numbers of an array, one after another
+--     untouched, zero-else         and zeros elsewhere
+--     filled                       α of lines that stand one after another
+--     both-spans, both-alphas      a row for each direction
+--     one-row                      no second row of α
 --     pair-in, pair-is             the two beside a bay, and their sum
+--     beside, at-panel             α of all lines has that of two, and of a panel's four
 --     clearing-x, clearing-y       a panel's two clear spans
 --     view-is                      what is put together of all that is a panel's view
 --     asked, least-is, enough-is   which is in the rules' range, and of which its least thickness, and whether t is enough, are worked out
 --     thick-in                     t is in range too
 -- Assumes nothing.
-use Prim.Native.Nat.{ℕ, _+_, _-_, _<_, min, max}
+use Prim.Native.Nat.{ℕ, _+_, _-_, _≤_, _<_, min, max}
 use mathlib.Core.Bool.{Bool, cond, _||_}
-use mathlib.Core.List.{List}
-use mathlib.Core.Path.{_≡_}
+use mathlib.Core.List.{List, [], _∷_}
+use mathlib.Core.Logic.{_⊎_, inl, inr}
+use mathlib.Core.Path.{_≡_, refl, sym, _∙_}
 use native.Mathlib.Decide.{decLt}
 use native.Mathlib.Omega.{arith}
 use lib.Dec.{leb}
 use lib.ListN.{getD, length, set}
-use lib.Seq.{getD-set-same, getD-set-other}
+use lib.Seq.{getD-set-same, getD-set-other, ext-getD}
 use Rattle.plan.specs.declared.ways.Way.{Way}
 use Rattle.plan.specs.declared.ways.Way.the-variants.{X, Y}
-use Rattle.plan.specs.Ways.{across}
-use Rattle.plan.specs.Plan.{thickness, lastLine}
-use Rattle.floor.specs.Layouts.{outerLine}
+use Rattle.plan.specs.Ways.{across, pick}
+use Rattle.plan.specs.Plan.{bays, thickness, grade, column, lastLine}
+use Rattle.layouts.specs.Layouts.{layoutOf, outerLine}
 use Rattle.floor.specs.Refusal.{refusal}
 use Rattle.floor.specs.Fair.{Fair}
 use Rattle.floor.proofs.Fair.{fair}
-use Rattle.rules.specs.declared.thickness.Place.{Place}
-use Rattle.rules.specs.declared.thickness.Place.the-variants.{Inner}
-use Rattle.rules.specs.Sizes as sizes
-use Rattle.rules.specs.Sizes.{Panel}
-use Rattle.rules.specs.LeastThickness.{leastThickness}
-use Rattle.lines.specs.declared.panel.Slab.{Slab}
-use Rattle.lines.specs.declared.panel.PanelView.{PanelView}
-use Rattle.lines.specs.Lines.{lineAlpha, pairAlpha, clearSpan, outerPanel, edgePlace, panelPlace, isEverywhere, panelThickness}
-use Rattle.lines.specs.Held.{Alphas, Pair, pairAt, Clearing, slabOf, panelView, AtPanel}
+use Rattle.thickness.specs.declared.Panel.{Panel}
+use Rattle.thickness.specs.declared.PanelPlace.{PanelPlace}
+use Rattle.thickness.specs.declared.PanelPlace.the-variants.{Inner}
+use Rattle.thickness.specs.Asked.{PanelSizes, SlabMost}
+use Rattle.thickness.specs.LeastThickness.{leastThickness}
+use Rattle.lines.specs.declared.slab.Slab.{Slab}
+use Rattle.lines.specs.Lines.{lineAlpha, pairAlpha, clearSpan, outerPanel, edgePlace, panelPlace, isEverywhere, panelView, panelThickness}
+use Rattle.lines.specs.Slabs.{slabOf}
+use Rattle.lines.specs.Rows.{Alphas, ZeroElse, Spans, AllSpans, AllAlphas, AlphaRows, rowOf, pairAt}
+use Rattle.lines.specs.Asked.{TwoAlphas, Clearing, Ready, PanelAtHand, AtPanel}
 use Rattle.lines.proofs.Floors.{alpha-bound, panel-in}
 
--- the first n numbers of a are those of v
-abbrev pub Filled : (ℕ → ℕ) → ℕ → List ℕ → Type 0
-Filled v n a = (k : ℕ) → k < n → getD a k 0 ≡ v k
+-- the numbers of a from `from` on and below n are those of v
+abbrev pub Filled : (ℕ → ℕ) → ℕ → ℕ → List ℕ → Type 0
+Filled v from n a = (k : ℕ) → from ≤ k → k < n → getD a k 0 ≡ v k
 
-pub one-more : (v : ℕ → ℕ) (n : ℕ) (a : List ℕ) {x : ℕ} → Filled v n a → n < length a → x ≡ v n → Filled v (n + 1) (set a n x)
-one-more v n a {x} h r e k q =
+pub one-more : (v : ℕ → ℕ) (from n : ℕ) (a : List ℕ) {x : ℕ} → Filled v from n a → n < length a → x ≡ v n → Filled v from (n + 1) (set a n x)
+one-more v from n a {x} h r e k p q =
     elim (decLt k n) [
-      | yes w ↦ rw (getD-set-other a n k x 0 (omega arith)) (h k w)
+      | yes w ↦ rw (getD-set-other a n k x 0 (omega arith)) (h k p w)
       | no w ↦ let s : k ≡ n = omega arith in rw (s, getD-set-same a n x 0 r) e
     ]
 
-module _ {f : List ℕ} {d : Way} {a : List ℕ} where
-  pub filled : refusal f ≡ 0 → Filled (lineAlpha f d) (lastLine f d + 1) a → Alphas f d a
-  filled e h =
+-- the other places of a keep their zeros
+abbrev pub Untouched : ℕ → ℕ → List ℕ → Type 0
+Untouched from n a = (k : ℕ) → k < 13 → (k < from) ⊎ (n ≤ k) → getD a k 0 ≡ 0
+
+pub untouched : (from n : ℕ) (a : List ℕ) (x : ℕ) → from ≤ n → Untouched from n a → Untouched from (n + 1) (set a n x)
+untouched from n a x h u k q (inl o) = rw (getD-set-other a n k x 0 (omega arith)) (u k q (inl o))
+untouched from n a x h u k q (inr o) = rw (getD-set-other a n k x 0 (omega arith)) (u k q (inr (omega arith)))
+
+pub zero-else : (from to n : ℕ) (a : List ℕ) → (n ≤ to + 1) ⊎ (n ≤ from) → Untouched from n a → ZeroElse from to a
+zero-else from to n a w u k q (inl o) = u k q (inl o)
+zero-else from to n a (inl h) u k q (inr o) = u k q (inr (omega arith))
+zero-else from to n a (inr h) u k q (inr o) =
+    elim (decLt k from) [
+      | yes l ↦ u k q (inl l)
+      | no l ↦ u k q (inr (omega arith))
+    ]
+
+pub filled : {f : List ℕ} {d : Way} {from to : ℕ} {a : List ℕ} → refusal f ≡ 0 → to ≤ lastLine f d → Filled (lineAlpha f d) from (to + 1) a → Alphas f d from to a
+filled {f} {d} e last h =
+    record {
+      is = λ l p q. h l p (omega arith);
+      most = λ l p q. rw (h l p (omega arith)) (alpha-bound f d l (record { accepted = e; line = omega arith }));
+    }
+
+module _ {f : List ℕ} {d : Way} {a : List ℕ} {k : ℕ} (known : Alphas f d k (k + 1) a) where
+  pub pair-in : refusal f ≡ 0 → k < lastLine f d → TwoAlphas a k
+  pair-in e h =
       record {
-        is = λ l q. h l (omega arith);
-        most = λ l q. rw (h l (omega arith)) (alpha-bound f d l (record { accepted = e; line = q }));
+        index = omega (arith, fair f e .bays-in (across d));
+        low = known .most k (omega arith) (omega arith);
+        high = known .most (k + 1) (omega arith) (omega arith);
       }
 
-  module _ {k : ℕ} (known : Alphas f d a) (h : k < lastLine f d) where
-    pub pair-in : refusal f ≡ 0 → Pair a k
-    pair-in e =
-        record { index = omega (arith, fair f e .bays-in (across d)); low = known .most k (omega arith); high = known .most (k + 1) (omega arith) }
+  pub pair-is : pairAt a k ≡ pairAlpha f d k
+  unfolding pairAlpha
+  pair-is = rw (known .is k (omega arith) (omega arith), known .is (k + 1) (omega arith) (omega arith))
 
-    pub pair-is : pairAt a k ≡ pairAlpha f d k
-    unfolding pairAlpha
-    pair-is = rw (known .is k (omega arith), known .is (k + 1) (omega arith))
+-- α of all lines has that of two
+pub beside : {f : List ℕ} {d : Way} {a : List ℕ} {k : ℕ} → Alphas f d 0 (lastLine f d) a → k < lastLine f d → Alphas f d k (k + 1) a
+beside known h = record { is = λ l p q. known .is l (omega arith) (omega arith); most = λ l p q. known .most l (omega arith) (omega arith) }
 
-module _ (f : List ℕ) {slab : Slab} {sx sy ax ay : List ℕ} (i j : ℕ) (p : AtPanel f slab sx sy ax ay i j) where
+pub at-panel : {f : List ℕ} {slab : Slab} {s a : List (List ℕ)} {i j : ℕ} → Ready f slab s a → i < bays f X → j < bays f Y → AtPanel f slab s a i j
+at-panel p hi hj =
+    record {
+      panel = record { surveyed = p .surveyed; x-bay = hi; y-bay = hj };
+      alphas = record { x = beside (p .alphas X) hj; y = beside (p .alphas Y) hi };
+    }
+
+-- a row for each direction
+pub both-spans : {f x y : List ℕ} → Spans f X x → Spans f Y y → AllSpans f (x ∷ y ∷ [])
+both-spans p q X = p
+both-spans p q Y = q
+
+pub both-alphas : {f x y : List ℕ} {m n : ℕ} → m ≡ lastLine f X → n ≡ lastLine f Y → Alphas f X 0 m x × ZeroElse 0 m x → Alphas f Y 0 n y × ZeroElse 0 n y
+    → AlphaRows f (x ∷ y ∷ [])
+both-alphas {f} {x} {y} e g p q = record { known = known; rest = rest }
+  where
+    known : AllAlphas f (x ∷ y ∷ [])
+    known X = rw (← e) (p .0)
+    known Y = rw (← g) (q .0)
+
+    rest : (d : Way) → ZeroElse 0 (lastLine f d) (rowOf (x ∷ y ∷ []) d)
+    rest X = rw (← e) (p .1)
+    rest Y = rw (← g) (q .1)
+
+-- there is one row of α of these lines and nothing else
+pub one-row : {f : List ℕ} {d : Way} {from to : ℕ} {a b : List ℕ} → length a ≡ 13 → length b ≡ 13 → Alphas f d from to a × ZeroElse from to a
+    → Alphas f d from to b × ZeroElse from to b → a ≡ b
+one-row {f} {d} {from} {to} {a} {b} la lb p q =
+    ext-getD 0 a b (la ∙ sym lb) (λ k h.
+    elim (decLt k from) [
+      | yes l ↦ p .1 k (omega (arith, h, la)) (inl l) ∙ sym (q .1 k (omega (arith, h, la)) (inl l))
+      | no l ↦
+          elim (decLt to k) [
+            | yes m ↦ p .1 k (omega (arith, h, la)) (inr m) ∙ sym (q .1 k (omega (arith, h, la)) (inr m))
+            | no m ↦ p .0 .is k (omega (arith, l)) (omega (arith, m)) ∙ sym (q .0 .is k (omega (arith, l)) (omega (arith, m)))
+          ]
+    ])
+
+module _ (f : List ℕ) {slab : Slab} {s a : List (List ℕ)} (i j : ℕ) (p : AtPanel f slab s a i j) where
+  abbrev at : PanelAtHand f slab s i j
+  at = p .panel
+
   numbers : Fair f
-  numbers = fair f (p .ready .accepted)
+  numbers = fair f (at .surveyed .accepted)
 
-  pub clearing-x : Clearing sx (slab .cx) i
+  pub clearing-x : Clearing (rowOf s X) (slab .cx) i
   unfolding slabOf
   clearing-x =
       record {
-        index = omega (arith, numbers .bays-in X, p .x-bay);
-        shorter = rw (p .ready .shared, p .ready .x-spans .is i (omega (arith, numbers .bays-in X, p .x-bay))) (omega (arith, numbers .clear X i (p .x-bay)));
+        index = omega (arith, numbers .bays-in X, at .x-bay);
+        shorter = rw (at .surveyed .shared, at .surveyed .spans X .is i (omega (arith, numbers .bays-in X, at .x-bay))) (omega (arith, numbers .clear X i (at .x-bay)));
       }
 
-  pub clearing-y : Clearing sy (slab .cy) j
+  pub clearing-y : Clearing (rowOf s Y) (slab .cy) j
   unfolding slabOf
   clearing-y =
       record {
-        index = omega (arith, numbers .bays-in Y, p .y-bay);
-        shorter = rw (p .ready .shared, p .ready .y-spans .is j (omega (arith, numbers .bays-in Y, p .y-bay))) (omega (arith, numbers .clear Y j (p .y-bay)));
+        index = omega (arith, numbers .bays-in Y, at .y-bay);
+        shorter = rw (at .surveyed .shared, at .surveyed .spans Y .is j (omega (arith, numbers .bays-in Y, at .y-bay))) (omega (arith, numbers .clear Y j (at .y-bay)));
       }
 
-  pub view-is : {everywhere outside : Bool} {place : Place} {fy x y sn ln a b : ℕ}
-      → x ≡ getD sx i 0 - slab .cx → y ≡ getD sy j 0 - slab .cy → a ≡ pairAt ax j → b ≡ pairAt ay i
+  shared : (slab .bays .x ≡ bays f X) × (slab .bays .y ≡ bays f Y) × (slab .layout ≡ layoutOf f) × (slab .fy ≡ grade f) × (slab .cx ≡ column f X) × (slab .cy ≡ column f Y)
+  unfolding slabOf
+  shared = rw (at .surveyed .shared) (refl, refl, refl, refl, refl, refl)
+
+  pub view-is : {everywhere outside : Bool} {place : PanelPlace} {fy x y sn ln v w : ℕ}
+      → x ≡ getD (rowOf s X) i 0 - slab .cx → y ≡ getD (rowOf s Y) j 0 - slab .cy → v ≡ pairAt (rowOf a X) j → w ≡ pairAt (rowOf a Y) i
       → everywhere ≡ isEverywhere (slab .layout)
-      → outside ≡ ((outerLine (slab .ny) j || outerLine (slab .ny) (j + 1)) || (outerLine (slab .nx) i || outerLine (slab .nx) (i + 1)))
+      → outside ≡ ((outerLine (slab .bays .y) j || outerLine (slab .bays .y) (j + 1)) || (outerLine (slab .bays .x) i || outerLine (slab .bays .x) (i + 1)))
       → place ≡ cond outside (edgePlace (slab .layout)) Inner → fy ≡ slab .fy → sn ≡ min x y → ln ≡ max x y
-      → _≡_ {A = PanelView} (record { everywhere = everywhere; place = place; fy = fy; sn = sn; ln = ln; s = a + b }) (panelView f i j)
-  unfolding slabOf panelView panelPlace outerPanel clearSpan
+      → _≡_ {A = Panel} (record { everywhere = everywhere; place = place; fy = fy; sn = sn; ln = ln; s = v + w }) (panelView f i j)
+  unfolding panelView panelPlace outerPanel clearSpan
   view-is ex ey ea eb ev eo ep ef es el =
       cc (
-        p .ready .shared,
-        p .ready .x-spans .is i (clearing-x .index),
-        p .ready .y-spans .is j (clearing-y .index),
-        pair-is (p .ready .along-x) (p .y-bay),
-        pair-is (p .ready .along-y) (p .x-bay),
+        shared .0,
+        shared .1,
+        shared .2,
+        shared .3,
+        shared .4,
+        shared .5,
+        at .surveyed .spans X .is i (clearing-x .index),
+        at .surveyed .spans Y .is j (clearing-y .index),
+        pair-is (p .alphas .x),
+        pair-is (p .alphas .y),
       )
 
-  module _ {view : PanelView} (is : view ≡ panelView f i j) where
-    pub asked : Panel (view .fy) (view .sn) (view .ln)
-    unfolding panelView
-    asked = rw is (panel-in f i j (p .ready .accepted) (p .x-bay) (p .y-bay))
+  module _ {view : Panel} (is : view ≡ panelView f i j) where
+    pub asked : PanelSizes (view .fy) (view .sn) (view .ln)
+    asked = rw is (panel-in f i j (at .surveyed .accepted) (at .x-bay) (at .y-bay))
 
-    pub least-is : {r : ℕ} → r ≡ leastThickness (view .everywhere) (view .place) (view .fy) (view .sn) (view .ln) (view .s) → r ≡ panelThickness f i j
-    unfolding panelView panelThickness
+    pub least-is : {r : ℕ} → r ≡ leastThickness view → r ≡ panelThickness f i j
+    unfolding panelThickness
     least-is e = cc (is)
 
-    pub enough-is : {b : Bool} → b ≡ leb (leastThickness (view .everywhere) (view .place) (view .fy) (view .sn) (view .ln) (view .s)) (slab .t)
-        → b ≡ leb (panelThickness f i j) (thickness f)
-    unfolding slabOf panelView panelThickness
-    enough-is e = cc (is, p .ready .shared)
+    pub enough-is : {b : Bool} → b ≡ leb (leastThickness view) (slab .t) → b ≡ leb (panelThickness f i j) (thickness f)
+    unfolding slabOf panelThickness
+    enough-is e = cc (is, at .surveyed .shared)
 
-  pub thick-in : sizes.Slab (slab .t)
+  pub thick-in : SlabMost (slab .t)
   unfolding slabOf
-  thick-in = rw (p .ready .shared) (record { most = numbers .thickness-in .1 })
+  thick-in = rw (at .surveyed .shared) (record { most = numbers .thickness-in .1 })

@@ -5,7 +5,7 @@
 --     panel-least                      a panel's least thickness is the least that 01 asks: bit 64 and the panel query speak of one number
 -- A line is the first, the last or one inside; the span past an outer line is not there and reads 0.
 -- Assumes nothing.
-use Prim.Native.Nat.{ℕ, _-_, _%_, _≤_, _<_, zero-le, min, max}
+use Prim.Native.Nat.{ℕ, _*_, _-_, _%_, _≤_, _<_, zero-le}
 use mathlib.Core.Bool.{Bool, true, false, cond, false≢true}
 use mathlib.Core.List.{List}
 use mathlib.Core.Logic.{inl, inr, ⊎-elim}
@@ -24,13 +24,14 @@ use Rattle.plan.proofs.Directions.{span-count}
 use Rattle.floor.specs.Refusal.{refusal}
 use Rattle.floor.specs.Fair.{Fair}
 use Rattle.floor.proofs.Fair.{fair}
-use Rattle.floor.proofs.Beams.{says-outer}
-use Rattle.rules.specs.Sizes.{Span, Column, OneSpan, Beside, Line, Frame, Beam, Panel}
-use Rattle.rules.proofs.Widths.{frame-in}
-use Rattle.rules.proofs.Stiffness.{alpha-most}
-use Rattle.rules.proofs.Thinnest.{clear-in, panel-of, least-thickness}
-use Rattle.lines.specs.Lines.{outer, below, above, lineWidth, lineAlpha, clearSpan, PanelEnough, panelThickness}
-use Rattle.lines.specs.Held.{OnLine, InBay}
+use Rattle.layouts.proofs.Beams.{says-outer}
+use Rattle.stiffness.specs.Asked.{Span, Column, OneSpan, Beside, Line, Frame, Beam}
+use Rattle.thickness.specs.Asked.{PanelSizes}
+use Rattle.stiffness.proofs.Widths.{frame-in}
+use Rattle.stiffness.proofs.Stiffness.{alpha-most}
+use Rattle.thickness.proofs.Thinnest.{panel-of, least-thickness}
+use Rattle.lines.specs.Lines.{outer, below, above, lineWidth, lineAlpha, clearSpan, panelView, PanelEnough, panelThickness}
+use Rattle.lines.specs.Asked.{OnLine, InBay}
 
 -- of two statements, the one that a test picks
 picked : {b : Bool} {P A B : Type 0} → Says b P → (P → A) → ((P → ⊥) → B) → cond b A B
@@ -57,6 +58,10 @@ module _ (f : List ℕ) (e : refusal f ≡ 0) where
 
   pub grade-most : grade f ≤ 520
   grade-most = ⊎-elim (λ a. omega arith) (⊎-elim (λ a. omega arith) (λ a. omega arith)) (fair f e .materials .1)
+
+-- the clear spans of an accepted floor, whose columns are at most half of each span
+clear-in : {l c : ℕ} → Span l → Column c → 2 * c ≤ l → (500 ≤ l - c) × (l - c ≤ 11800)
+clear-in l c h = omega arith
 
 pub clear-of : (f : List ℕ) (d : Way) (k : ℕ) → InBay f d k → (500 ≤ clearSpan f d k) × (clearSpan f d k ≤ 11800)
 unfolding clearSpan
@@ -112,10 +117,11 @@ module _ (f : List ℕ) (d : Way) (l : ℕ) (at : OnLine f d l) where
   alpha-bound = alpha-most (outer f d l) (beam-of f (at .accepted) d l) frame-of
 
 module _ (f : List ℕ) (i j : ℕ) (e : refusal f ≡ 0) (hi : i < bays f X) (hj : j < bays f Y) where
-  pub panel-in : Panel (grade f) (min (clearSpan f X i) (clearSpan f Y j)) (max (clearSpan f X i) (clearSpan f Y j))
+  pub panel-in : PanelSizes (panelView f i j .fy) (panelView f i j .sn) (panelView f i j .ln)
+  unfolding panelView
   panel-in =
       panel-of (grade-most f e) (clear-of f X i (record { accepted = e; bay = hi })) (clear-of f Y j (record { accepted = e; bay = hj }))
 
   pub panel-least : Least (PanelEnough f i j) (panelThickness f i j)
   unfolding panelThickness
-  panel-least = least-thickness _ _ _ _ _ _ panel-in .0
+  panel-least = least-thickness (panelView f i j) panel-in .0

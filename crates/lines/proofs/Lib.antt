@@ -1,3 +1,4 @@
 pub mod Floors
+pub mod Slabs
 pub mod Filled
 pub mod Meaning

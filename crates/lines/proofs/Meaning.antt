@@ -15,13 +15,13 @@ use Rattle.plan.specs.declared.ways.Way.{Way}
 use Rattle.plan.specs.declared.ways.Way.the-variants.{X, Y}
 use Rattle.plan.specs.Ways.{across}
 use Rattle.plan.specs.Plan.{bays, lastLine}
-use Rattle.floor.specs.declared.layout.Layout.{Layout}
-use Rattle.floor.specs.declared.layout.Layout.the-variants.{Everywhere, OuterOnly, Bare}
-use Rattle.floor.specs.Layouts.{layoutOf}
+use Rattle.layouts.specs.declared.Layout.{Layout}
+use Rattle.layouts.specs.declared.Layout.the-variants.{Everywhere, OuterOnly, Bare}
+use Rattle.layouts.specs.Layouts.{layoutOf}
 use Rattle.floor.specs.Refusal.{refusal}
-use Rattle.floor.specs.Meaning.{Outer, EachLine, Beamed}
+use Rattle.layouts.specs.Meaning.{Outer, EachLine, Beamed}
 use Rattle.floor.proofs.Fair.{fair}
-use Rattle.floor.proofs.Beams.{says-outer}
+use Rattle.layouts.proofs.Beams.{says-outer}
 use Rattle.lines.specs.Lines.{touches, outerPanel, isEverywhere}
 use Rattle.lines.specs.Meaning.{EndBay, OuterPanel}
 

@@ -1,3 +1,5 @@
 pub mod Lines
-pub mod Held
+pub mod Slabs
+pub mod Rows
+pub mod Asked
 pub mod Meaning

@@ -8,13 +8,14 @@ use Rattle.plan.specs.declared.ways.Way.{Way}
 use Rattle.plan.specs.declared.ways.Way.the-variants.{X, Y}
 use Rattle.plan.specs.Ways.{across}
 use Rattle.plan.specs.Plan.{thickness, grade, column, span, lastLine, beamWidth, beamDepth}
-use Rattle.floor.specs.declared.layout.Layout.{Layout}
-use Rattle.floor.specs.declared.layout.Layout.the-variants.{Everywhere, OuterOnly, Bare}
-use Rattle.floor.specs.Layouts.{outerLine, layoutOf}
-use Rattle.rules.specs.declared.thickness.Place.{Place}
-use Rattle.rules.specs.declared.thickness.Place.the-variants.{Edged, Inner}
-use Rattle.rules.specs.Lines.{frameWidth, alpha}
-use Rattle.rules.specs.LeastThickness.{Enough, leastThickness}
+use Rattle.layouts.specs.declared.Layout.{Layout}
+use Rattle.layouts.specs.declared.Layout.the-variants.{Everywhere, OuterOnly, Bare}
+use Rattle.layouts.specs.Layouts.{outerLine, layoutOf}
+use Rattle.thickness.specs.declared.Panel.{Panel}
+use Rattle.thickness.specs.declared.PanelPlace.{PanelPlace}
+use Rattle.thickness.specs.declared.PanelPlace.the-variants.{Edged, Inner}
+use Rattle.stiffness.specs.Lines.{frameWidth, alpha}
+use Rattle.thickness.specs.LeastThickness.{Enough, leastThickness}
 
 -- ---- line l along d
 
@@ -58,12 +59,12 @@ unfoldable pub outerPanel : List ℕ → ℕ → ℕ → Bool
 outerPanel f i j = touches f X j || touches f Y i
 
 -- "outer panel without edge beams, outer with, inner": the outer lines have beams in each layout but the bare one
-abbrev pub edgePlace : Layout → Place
+abbrev pub edgePlace : Layout → PanelPlace
 edgePlace Everywhere = Edged
 edgePlace OuterOnly = Edged
-edgePlace Bare = Rattle.rules.specs.declared.thickness.Place.the-variants.Bare
+edgePlace Bare = Rattle.thickness.specs.declared.PanelPlace.the-variants.Bare
 
-unfoldable pub panelPlace : List ℕ → ℕ → ℕ → Place
+unfoldable pub panelPlace : List ℕ → ℕ → ℕ → PanelPlace
 panelPlace f i j = cond (outerPanel f i j) (edgePlace (layoutOf f)) Inner
 
 -- "beams everywhere"
@@ -72,13 +73,21 @@ isEverywhere Everywhere = true
 isEverywhere OuterOnly = false
 isEverywhere Bare = false
 
+-- what the thickness of the panel is asked from
+unfoldable pub panelView : List ℕ → ℕ → ℕ → Panel
+panelView f i j =
+    record {
+      everywhere = isEverywhere (layoutOf f);
+      place = panelPlace f i j;
+      fy = grade f;
+      sn = min (clearSpan f X i) (clearSpan f Y j);
+      ln = max (clearSpan f X i) (clearSpan f Y j);
+      s = panelAlpha f i j;
+    }
+
 -- what is asked of a thickness of the panel, and the least that it comes to
 abbrev pub PanelEnough : List ℕ → ℕ → ℕ → ℕ → Type 0
-PanelEnough f i j =
-    Enough (isEverywhere (layoutOf f)) (panelPlace f i j) (grade f)
-    (min (clearSpan f X i) (clearSpan f Y j)) (max (clearSpan f X i) (clearSpan f Y j)) (panelAlpha f i j)
+PanelEnough f i j = Enough (panelView f i j)
 
 unfoldable pub panelThickness : List ℕ → ℕ → ℕ → ℕ
-panelThickness f i j =
-    leastThickness (isEverywhere (layoutOf f)) (panelPlace f i j) (grade f)
-    (min (clearSpan f X i) (clearSpan f Y j)) (max (clearSpan f X i) (clearSpan f Y j)) (panelAlpha f i j)
+panelThickness f i j = leastThickness (panelView f i j)

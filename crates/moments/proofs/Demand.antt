@@ -1,33 +1,27 @@
--- Demand 3, over any run of changes: by induction on the run, the floor held is accepted, the lent slice has room for its table, and the
+-- Demand 3, over any run of changes: by induction on the run, the floor held is accepted, what is lent has room for its table, and the
 -- table held is its floor's, worked out afresh.
 -- Assumes nothing.
-use Prim.Native.Nat.{ℕ, _*_, _≤_}
+use Prim.Native.Nat.{ℕ}
 use mathlib.Core.Bool.{Bool, true, false, cond}
 use mathlib.Core.List.{List, _∷_}
 use mathlib.Core.Path.{_≡_, refl, sym, ap, _∙_}
-use lib.ListN.{length}
 use Rattle.numbers.specs.Tests.{Says}
 use Rattle.numbers.proofs.Tests.{says-eq, by-test}
 use Rattle.floor.specs.Refusal.{refusal}
 use Rattle.changes.specs.Change.{changed}
-use Rattle.changes.specs.Meaning.{Taken}
+use Rattle.changes.specs.Meaning.{TakenChange}
 use Rattle.changes.proofs.Given.{taken}
-use Rattle.verdict.specs.declared.Answer.{Answer}
-use Rattle.verdict.specs.Answers.{answer}
-use Rattle.verdict.specs.Limits.{verdict}
-use Rattle.tables.specs.Width.{recordWidth}
-use Rattle.tables.specs.Places.{recordCount}
-use Rattle.moments.specs.Tables.{fresh}
-use Rattle.moments.specs.Opening.{openRefusal, answered, Opened}
-use Rattle.moments.specs.Changing.{changeNumber, floorAfter, tableAfter, Changed}
+use Rattle.answers.specs.declared.Answer.{Answer}
+use Rattle.answers.specs.Answers.{answer, answered}
+use Rattle.limits.specs.Limits.{verdict}
+use Rattle.moments.specs.Lent.{Lent, lent}
+use Rattle.moments.specs.Tables.{afresh, roomChecks}
+use Rattle.moments.specs.Opening.{openRefusal, Opened}
+use Rattle.moments.specs.Changing.{changingChecks, changeNumber, floorAfter, lentAfter, Changed}
 use Rattle.moments.specs.Mornings.{Morning, Held}
 use Rattle.moments.specs.Mornings.Morning.{none, then}
-use Rattle.moments.proofs.Fresh.{both-zero, room-of, length-fresh, count-kept, made-fresh}
-
--- a floor that is held, and room for its table in the slice as lent
-pub record Ready (f t : List ℕ) : Type 0 where
-  pub accepted : refusal f ≡ 0
-  pub room : recordCount f * recordWidth ≤ length t
+use Rattle.moments.proofs.Room.{Lodged, open-parts, change-parts}
+use Rattle.moments.proofs.Fresh.{length-fresh, count-kept, made-fresh}
 
 -- two choices by one test are equal where their first are, and their second
 both-ways : {A B : Type 0} {b : Bool} {P : Type 0} {x y : A} {z w : B} → Says b P → (G : B → A) → (P → x ≡ G z) → y ≡ G w → cond b x y ≡ G (cond b z w)
@@ -36,74 +30,90 @@ both-ways {b = false} s G p q = q
 
 -- ---- one change
 
-module _ (f c : List ℕ) (n : ℕ) where
-  pub taken-of : changeNumber f n c ≡ 0 → Taken f c
-  unfolding changeNumber
-  taken-of e = taken f c .0 (both-zero _ _ e .0)
+module _ (f c : List ℕ) (l : Lent) where
+  pub taken-of : changeNumber f l c ≡ 0 → TakenChange f c
+  taken-of e = taken f c .0 (change-parts f l c e .0)
+
+  pub lodged-changed : changeNumber f l c ≡ 0 → Lodged (changed f c) l
+  lodged-changed z = record { table = rw (count-kept f c (taken-of z)) (change-parts f l c z .1 .table) }
 
   -- the verdict that is answered is that of the floor left
-  pub same-answer : answered (changeNumber f n c) (verdict (changed f c)) ≡ answered (changeNumber f n c) (verdict (floorAfter f n c))
+  pub same-answer : answered (changeNumber f l c) (verdict (changed f c)) ≡ answered (changeNumber f l c) (verdict (floorAfter f l c))
   same-answer =
-      by-test (λ r. r ≡ answered (changeNumber f n c) (verdict (floorAfter f n c))) (says-eq (changeNumber f n c) 0)
+      by-test (λ r. r ≡ answered (changeNumber f l c) (verdict (floorAfter f l c))) (says-eq (changeNumber f l c) 0)
       (λ z. rw (z))
-      (λ ne. by-test (λ r. answer (changeNumber f n c) 255 ≡ r) (says-eq (changeNumber f n c) 0) (λ z. absurd (ne z)) (λ _. refl))
+      (λ ne. by-test (λ r. answer (changeNumber f l c) 255 ≡ r) (says-eq (changeNumber f l c) 0) (λ z. absurd (ne z)) (λ _. refl))
 
-module _ (f t c : List ℕ) (h : Ready f t) where
-  ready-after : Ready (floorAfter f (length t) c) t
-  ready-after =
-      by-test (λ g. Ready g t) (says-eq (changeNumber f (length t) c) 0)
-      (λ z. let q = taken-of f c (length t) z in record { accepted = q .left; room = rw (count-kept f c q) (h .room) }) (λ _. h)
+-- no length changes where what is lent is worked out afresh, so no refusal does
+room-kept : (f : List ℕ) (l : Lent) → Lodged f l → roomChecks f (afresh f l) ≡ roomChecks f l
+unfolding roomChecks
+room-kept f l h = rw (length-fresh f (l .table) (h .table))
 
-  table-after : tableAfter f (fresh f t) c ≡ fresh (floorAfter f (length t) c) t
-  table-after =
-      rw (length-fresh f t (h .room))
-      (both-ways (says-eq (changeNumber f (length t) c) 0) (λ g. fresh g t) (λ z. made-fresh f c (taken-of f c (length t) z) t (h .room)) refl)
+module _ (f c : List ℕ) (l : Lent) (h : Lodged f l) where
+  number-kept : changeNumber f (afresh f l) c ≡ changeNumber f l c
+  unfolding changeNumber changingChecks
+  number-kept = rw (room-kept f l h)
+
+  lent-after : lentAfter f (afresh f l) c ≡ afresh (floorAfter f l c) l
+  lent-after =
+      rw number-kept
+      (both-ways (says-eq (changeNumber f l c) 0) (λ g. afresh g l) (λ z. ap lent (made-fresh f c (taken-of f c l z) (l .table) (h .table))) refl)
 
 -- ---- a run of them
 
+-- a floor that is held, with room for its table
+pub record Ready (f : List ℕ) (l : Lent) : Type 0 where
+  pub accepted : refusal f ≡ 0
+  pub room : Lodged f l
+
+ready-after : (f c : List ℕ) (l : Lent) → Ready f l → Ready (floorAfter f l c) l
+ready-after f c l h =
+    by-test (λ g. Ready g l) (says-eq (changeNumber f l c) 0)
+    (λ z. record { accepted = taken-of f c l z .left; room = lodged-changed f c l z }) (λ _. h)
+
 -- one change before a run that keeps its promise
-module _ {f t u c g v : List ℕ} {a : Answer} (r : Ready f t) (e : u ≡ fresh f t) (p : Changed f u c a g v) where
-  room-is : length u ≡ length t
-  room-is = ap length e ∙ length-fresh f t (r .room)
+module _ {f c g : List ℕ} {l u v : Lent} {a : Answer} (r : Ready f l) (e : u ≡ afresh f l) (p : Changed f u c a g v) where
+  number-is : changeNumber f u c ≡ changeNumber f l c
+  number-is = ap (λ (x : Lent). changeNumber f x c) e ∙ number-kept f c l (r .room)
 
-  floor-is : g ≡ floorAfter f (length t) c
-  floor-is = p .floor ∙ rw room-is
+  floor-is : g ≡ floorAfter f l c
+  floor-is = p .floor ∙ rw number-is
 
-  table-is : v ≡ fresh g t
-  table-is = p .table ∙ rw (e, floor-is) (table-after f t c r)
+  lent-is : v ≡ afresh g l
+  lent-is = p .lent ∙ rw (e, floor-is) (lent-after f c l (r .room))
 
-  answer-is : a ≡ answered (changeNumber f (length t) c) (verdict (floorAfter f (length t) c))
-  answer-is = p .answer ∙ rw room-is (same-answer f c (length t))
+  answer-is : a ≡ answered (changeNumber f l c) (verdict (floorAfter f l c))
+  answer-is = p .answer ∙ rw number-is (same-answer f c l)
 
-  ready-is : Ready g t
-  ready-is = rw floor-is (ready-after f t c r)
+  ready-is : Ready g l
+  ready-is = rw floor-is (ready-after f c l r)
 
-  before : {h w : List ℕ} {cs : List (List ℕ)} {rs : List Answer} → Held g t cs rs h w → Held f t (c ∷ cs) (a ∷ rs) h w
+  before : {h : List ℕ} {w : Lent} {cs : List (List ℕ)} {rs : List Answer} → Held g l cs rs h w → Held f l (c ∷ cs) (a ∷ rs) h w
   before q =
       record {
         floor = q .floor ∙ rw floor-is;
-        table = q .table ∙ rw floor-is;
+        lent = q .lent ∙ rw floor-is;
         answers = ap (λ (x : List Answer). a ∷ x) (q .answers) ∙ rw (floor-is, answer-is);
       }
 
-run : (t : List ℕ) {f u g w : List ℕ} {cs : List (List ℕ)} {rs : List Answer} → Ready f t → u ≡ fresh f t → Morning f u cs rs g w → Held f t cs rs g w
-run t r e none = record { floor = refl; table = e; answers = refl }
-run t r e (then p m) = before r e p (run t (ready-is r e p) (table-is r e p) m)
+run : (l : Lent) {f g : List ℕ} {u w : Lent} {cs : List (List ℕ)} {rs : List Answer} → Ready f l → u ≡ afresh f l → Morning f u cs rs g w → Held f l cs rs g w
+run l r e none = record { floor = refl; lent = e; answers = refl }
+run l r e (then p m) = before r e p (run l (ready-is r e p) (lent-is r e p) m)
 
 -- "The floor is then the first one with each change not refused put in its place in turn, the table equals that floor's table worked out
 -- afresh, and each change not refused gave the verdict of the floor it made."
-pub morning : {f t u g w : List ℕ} {a : Answer} {cs : List (List ℕ)} {rs : List Answer}
-    → Opened f t a u → a .refusal ≡ 0 → Morning f u cs rs g w → Held f t cs rs g w
+pub morning : {f g : List ℕ} {l u w : Lent} {a : Answer} {cs : List (List ℕ)} {rs : List Answer}
+    → Opened f l a u → a .refusal ≡ 0 → Morning f u cs rs g w → Held f l cs rs g w
 unfolding openRefusal
-morning {f} {t} {u} {a = a} o z m = run t ready filled m
+morning {f} {l = l} {u} {a = a} o z m = run l ready filled m
   where
-    number : openRefusal f (length t) ≡ 0
+    number : openRefusal f l ≡ 0
     number =
-        by-test (λ (x : Answer). x .refusal ≡ 0 → openRefusal f (length t) ≡ 0) (says-eq (openRefusal f (length t)) 0) (λ q _. q) (λ _ q. q)
+        by-test (λ (x : Answer). x .refusal ≡ 0 → openRefusal f l ≡ 0) (says-eq (openRefusal f l) 0) (λ q _. q) (λ _ q. q)
         (ap (λ (x : Answer). x .refusal) (sym (o .answer)) ∙ z)
 
-    ready : Ready f t
-    ready = record { accepted = both-zero _ _ number .0; room = room-of f (length t) (both-zero _ _ number .1) }
+    ready : Ready f l
+    ready = record { accepted = open-parts f l number .0; room = open-parts f l number .1 }
 
-    filled : u ≡ fresh f t
-    filled = o .table ∙ rw number
+    filled : u ≡ afresh f l
+    filled = o .lent ∙ rw number

@@ -16,27 +16,27 @@ use Rattle.numbers.proofs.Written.{length-written, same-written, rewritten}
 use Rattle.plan.specs.declared.ways.Way.{Way}
 use Rattle.plan.specs.declared.ways.Way.the-variants.{X, Y}
 use Rattle.plan.specs.Plan.{bays}
-use Rattle.changes.specs.Change.{changeKind, changeIndex, changed, orElse}
-use Rattle.changes.specs.Meaning.{Taken}
+use Rattle.changes.specs.Change.{changeKind, changeIndex, changed}
+use Rattle.changes.specs.Meaning.{TakenChange}
 use Rattle.changes.proofs.Kept.{bays-kept}
-use Rattle.verdict.specs.Limits.{verdict}
-use Rattle.verdict.specs.Meaning.{Few}
-use Rattle.verdict.proofs.Meaning.{clear}
-use Rattle.spans.specs.Sixteen.{sixteen}
+use Rattle.limits.specs.Limits.{verdict}
+use Rattle.limits.specs.Meaning.{Few}
+use Rattle.limits.proofs.Meaning.{clear}
+use Rattle.spans.specs.Record.{recordOf}
 use Rattle.tables.specs.Width.{recordWidth}
 use Rattle.tables.specs.Places.{recordCount, placeOf}
 use Rattle.tables.specs.Named.{namedAt}
 use Rattle.tables.specs.Blank.{zeros}
 use Rattle.tables.proofs.Meaning.{says-named-at}
-use Rattle.frames.specs.Table.{viewAt, recordAt, renamed}
-use Rattle.moments.specs.Tables.{rightRecord, fresh, roomRefusal}
+use Rattle.frames.specs.Table.{viewAt, recordAt, namedWritten}
+use Rattle.moments.specs.Tables.{rightRecord, fresh}
 use Rattle.moments.specs.Tables as tables
 use Rattle.moments.specs.Changing as changing
 use Rattle.moments.proofs.SameView.{same-view}
 
 -- every record has its numbers
 pub record-full : (f : List ℕ) (k : ℕ) → recordWidth ≤ length (recordAt f k)
-unfolding sixteen
+unfolding recordOf
 record-full f k = omega arith
 
 pub right-full : (f : List ℕ) (k : ℕ) → recordWidth ≤ length (rightRecord f k)
@@ -51,17 +51,7 @@ pub length-fresh : (f t : List ℕ) → recordCount f * recordWidth ≤ length t
 unfolding fresh
 length-fresh f t room = length-written recordWidth every (rightRecord f) (right-full f) (recordCount f) t room
 
--- a number that is 0 was given by neither
-pub both-zero : (a b : ℕ) → orElse a b ≡ 0 → (a ≡ 0) × (b ≡ 0)
-unfolding orElse
-both-zero a b = by-test (λ n. n ≡ 0 → (a ≡ 0) × (b ≡ 0)) (says-eq a 0) (λ z e. (z, e)) (λ ne e. absurd (ne e))
-
-pub room-of : (f : List ℕ) (n : ℕ) → roomRefusal f n ≡ 0 → recordCount f * recordWidth ≤ n
-unfolding roomRefusal
-room-of f n =
-    by-test (λ r. r ≡ 0 → recordCount f * recordWidth ≤ n) (says-lt n (recordCount f * recordWidth)) (λ h e. absurd (omega arith)) (λ h e. omega (arith, h))
-
-module _ (f c : List ℕ) (t : Taken f c) where
+module _ (f c : List ℕ) (t : TakenChange f c) where
   abbrev g : List ℕ
   g = changed f c
 
@@ -91,14 +81,14 @@ module _ (f c : List ℕ) (t : Taken f c) where
   same-record : (k : ℕ) → k < recordCount f → verdict f ≡ 0 → namedAt g (changeKind c) (changeIndex c) k ≡ false → recordAt f k ≡ recordAt g k
   unfolding viewAt
   same-record k h e un =
-      ap sixteen
+      ap recordOf
       (rw (place-kept k)
       (sym (same-view f c t (wide e) (placeOf f k) (λ n. true≢false (sym (says-named-at f (changeKind c) (changeIndex c) h .passes n) ∙ sym (named-kept _ _ k) ∙ un)))))
 
   -- what a change writes of the table of f makes it the table of g
   pub made-fresh : (lent : List ℕ) → recordCount f * recordWidth ≤ length lent
       → changing.rewritten (tables.clear f) g (changeKind c) (changeIndex c) (fresh f lent) ≡ fresh g lent
-  unfolding changing.rewritten renamed fresh
+  unfolding changing.rewritten namedWritten fresh
   made-fresh lent room = by-clear (says-and (says-eq (verdict f) 0) (says-eq (verdict g) 0))
     where
       anew : (s : ℕ → Bool) → ((k : ℕ) → k < recordCount f → s k ≡ false → rightRecord f k ≡ rightRecord g k)
@@ -106,7 +96,7 @@ module _ (f c : List ℕ) (t : Taken f c) where
       anew s same = rw count-kept (rewritten recordWidth s (rightRecord f) (rightRecord g) (right-full f) (right-full g) (recordCount f) lent (omega arith) room same)
 
       by-clear : Says (tables.clear f && tables.clear g) ((verdict f ≡ 0) × (verdict g ≡ 0))
-          → cond (tables.clear f && tables.clear g) (renamed g (changeKind c) (changeIndex c) (fresh f lent)) (fresh g (fresh f lent)) ≡ fresh g lent
+          → cond (tables.clear f && tables.clear g) (namedWritten g (changeKind c) (changeIndex c) (fresh f lent)) (fresh g (fresh f lent)) ≡ fresh g lent
       by-clear says =
           by-test (λ u. u ≡ fresh g lent) says
           (λ e. same-written recordWidth _ _ _ _ 0 (recordCount g) _ (λ k _ _. refl) (λ k _ _. sym (right-clear g (e .1) k))

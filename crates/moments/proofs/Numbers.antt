@@ -1,4 +1,4 @@
--- The table, number by number: what `fresh` and `renamed` leave at every span and past the records, and that no second table does.
+-- The table, number by number: what `fresh` and `namedWritten` leave at every span and past the records, and that no second table does.
 -- A record is found by its span and a span by its record (crate tables, Numbered), so two tables alike at every span are equal.
 -- Assumes nothing.
 use Prim.Native.Nat.{ℕ, _*_, _≤_, _<_}
@@ -11,8 +11,8 @@ use Rattle.numbers.specs.Records.{every}
 use Rattle.numbers.specs.Tests.{Says}
 use Rattle.numbers.proofs.Tests.{says-eq, by-test, by-says, fails}
 use Rattle.numbers.proofs.Written.{length-written, written-past, written-at, same-records}
-use Rattle.verdict.specs.Limits.{verdict}
-use Rattle.spans.specs.Sixteen.{sixteen}
+use Rattle.limits.specs.Limits.{verdict}
+use Rattle.spans.specs.Record.{recordOf}
 use Rattle.tables.specs.Width.{recordWidth}
 use Rattle.tables.specs.Places.{Place, Inside, numberOf, placeOf, recordCount}
 use Rattle.tables.specs.Named.{namedAt}
@@ -20,7 +20,7 @@ use Rattle.tables.specs.Blank.{zeros}
 use Rattle.tables.specs.Meaning.{Names}
 use Rattle.tables.proofs.Numbered.{number-place, place-inside, place-number, number-below}
 use Rattle.tables.proofs.Meaning.{says-named, says-named-at}
-use Rattle.frames.specs.Table.{viewIn, viewAt, recordAt, renamed}
+use Rattle.frames.specs.Table.{viewIn, viewAt, recordAt, namedWritten}
 use Rattle.moments.specs.Tables.{rightRecord, fresh}
 use Rattle.moments.specs.Meaning.{numberIn, TableOf, NamedOf}
 use Rattle.moments.proofs.Fresh.{record-full, right-full, right-clear, length-fresh}
@@ -35,7 +35,7 @@ module _ (f : List ℕ) where
       (λ k n hk hn. rw (place-number f hk) at (inside (placeOf f k) (place-inside f hk) n hn)) past
 
   -- the record of a span is worked out from what is read of it
-  record-of : (p : Place) → Inside f p → recordAt f (numberOf f p) ≡ sixteen (viewIn f p)
+  record-of : (p : Place) → Inside f p → recordAt f (numberOf f p) ≡ recordOf (viewIn f p)
   unfolding viewAt
   record-of p h = rw (number-place f h)
 
@@ -58,8 +58,8 @@ module _ (f : List ℕ) where
         blank ne k n hn =
             by-test {y = zeros k} (λ (r : List ℕ). getD r n 0 ≡ 0) (says-eq (verdict f) 0) (λ e. absurd (ne e)) (λ _. getD-replicate recordWidth n 0 0 hn)
 
-    pub named-of : (kind index : ℕ) → NamedOf f kind index t (renamed f kind index t)
-    unfolding renamed
+    pub named-of : (kind index : ℕ) → NamedOf f kind index t (namedWritten f kind index t)
+    unfolding namedWritten
     named-of kind index =
         record {
           same-length = length-written recordWidth (namedAt f kind index) (recordAt f) (record-full f) (recordCount f) t room;
@@ -69,7 +69,7 @@ module _ (f : List ℕ) where
         }
       where
         at : (p : Place) → Inside f p → (n : ℕ) → n < recordWidth
-            → numberIn f (renamed f kind index t) p n ≡ cond (namedAt f kind index (numberOf f p)) (getD (recordAt f (numberOf f p)) n 0) (numberIn f t p n)
+            → numberIn f (namedWritten f kind index t) p n ≡ cond (namedAt f kind index (numberOf f p)) (getD (recordAt f (numberOf f p)) n 0) (numberIn f t p n)
         at p h n hn = written-at recordWidth (namedAt f kind index) (recordAt f) (record-full f) (recordCount f) t room (numberOf f p) n (number-below f h) hn
 
         test : (p : Place) → (h : Inside f p) → Says (namedAt f kind index (numberOf f p)) (Names f kind index p)

@@ -1,45 +1,73 @@
--- 8 is given exactly when the numbers tried before it give none and the table is short: one law for opening and for a change.
+-- The numbers of opening and of a change: given exactly when their statements say so, and what success says of the floor and of what is lent.
 -- Assumes nothing.
-use Prim.Native.Nat.{ℕ, _*_}
-use mathlib.Core.List.{List}
+use Prim.Native.Nat.{ℕ, _*_, _≤_}
+use mathlib.Core.Bool.{cond}
+use mathlib.Core.List.{List, _++_}
 use mathlib.Core.Logic.{_↔_}
-use mathlib.Core.Path.{_≡_, refl, sym, subst, _∙_}
-use native.Mathlib.Omega.{arith}
-use borrow.Author.Tests.{lt-ltb, le-ltb, ne-eqb}
-use Rattle.numbers.proofs.Tests.{says-eq, says-lt, by-test}
+use mathlib.Core.Path.{_≡_, _∙_}
+use lib.Dec.{eqb}
+use lib.ListN.{length}
+use Rattle.numbers.proofs.Tests.{says-le, says-eq, by-test}
+use Rattle.numbers.specs.Chains.{Chain, tried, Holds, Sound}
+use Rattle.numbers.specs.Chains.Sound.{done, _then_}
+use Rattle.numbers.proofs.Chains.{answers, success, both-zero, _before_, stands, decides}
 use Rattle.floor.specs.Refusal.{refusal}
-use Rattle.floor.proofs.Meaning.{given}
-use Rattle.changes.specs.Change.{orElse, changeRefusal}
-use Rattle.changes.proofs.Given.{given-change}
+use Rattle.floor.proofs.Meaning.{sound-floor}
+use Rattle.changes.specs.declared.Ruling.{Ruling}
+use Rattle.changes.specs.Refusal.{changeRefusal, ruling}
+use Rattle.changes.proofs.Given.{sound-change, number-ruled}
 use Rattle.tables.specs.Width.{recordWidth}
 use Rattle.tables.specs.Places.{recordCount}
-use Rattle.moments.specs.Tables.{roomRefusal}
-use Rattle.moments.specs.Opening.{openRefusal}
-use Rattle.moments.specs.Changing.{changeNumber}
-use Rattle.moments.specs.Meaning.{ThenRoom, GivenOpening, GivenChanging}
-use Rattle.moments.specs.Meaning.ThenRoom.{earlier, eight, success}
+use Rattle.moments.specs.Lent.{Lent}
+use Rattle.moments.specs.Tables.{roomChecks, roomRefusal}
+use Rattle.moments.specs.Opening.{openChecks, openRefusal}
+use Rattle.moments.specs.Changing.{changingChecks, changeNumber}
+use Rattle.moments.specs.Meaning.{GivenOpening, GivenChanging}
 
-module _ (G : ℕ → Type 0) (f : List ℕ) (m a : ℕ) (cause : (n : ℕ) → (a ≡ n) ↔ G n) where
-  answered : ThenRoom G f m (orElse a (roomRefusal f m))
-  unfolding orElse roomRefusal
-  answered =
-      by-test (ThenRoom G f m) (says-eq a 0)
-      (λ z. by-test (ThenRoom G f m) (says-lt m (recordCount f * recordWidth)) (λ h. eight (cause 0 .0 z) h) (λ h. success (cause 0 .0 z) (omega (arith, h))))
-      (λ ne. earlier ne (cause a .0 refl))
+-- what is lent has room for what is written of floor f
+pub record Lodged (f : List ℕ) (l : Lent) : Type 0 where
+  pub table : recordCount f * recordWidth ≤ length (l .table)
 
-  answers : {n : ℕ} → ThenRoom G f m n → orElse a (roomRefusal f m) ≡ n
-  unfolding orElse roomRefusal
-  answers {n} (earlier ne g) = rw (ne-eqb a 0 (λ z. ne (sym (cause n .1 g) ∙ z))) (cause n .1 g)
-  answers (eight g h) = rw (cause 0 .1 g, lt-ltb m (recordCount f * recordWidth) h)
-  answers (success g h) = rw (cause 0 .1 g, le-ltb m (recordCount f * recordWidth) h)
+sound-room : (f : List ℕ) (l : Lent) → Sound (roomChecks f l)
+unfolding roomChecks
+sound-room f l = says-le (recordCount f * recordWidth) (length (l .table)) then done
 
-  pub then-room : (n : ℕ) → (orElse a (roomRefusal f m) ≡ n) ↔ ThenRoom G f m n
-  then-room n = (λ e. subst (ThenRoom G f m) e answered, answers)
+pub given-opening : (n : ℕ) (f : List ℕ) (l : Lent) → (openRefusal f l ≡ n) ↔ GivenOpening f l n
+unfolding openRefusal openChecks
+given-opening n f l = answers (sound-floor f before sound-room f l) n
 
-pub given-opening : (n : ℕ) (f : List ℕ) (m : ℕ) → (openRefusal f m ≡ n) ↔ GivenOpening f m n
-unfolding openRefusal
-given-opening n f m = then-room (λ k. _) f m (refusal f) (λ k. given k f) n
+pub given-changing : (n : ℕ) (f : List ℕ) (l : Lent) (c : List ℕ) → (changeNumber f l c ≡ n) ↔ GivenChanging f l c n
+unfolding changeNumber changingChecks
+given-changing n f l c = answers (sound-change f c before sound-room f l) n
 
-pub given-changing : (n : ℕ) (f : List ℕ) (m : ℕ) (c : List ℕ) → (changeNumber f m c ≡ n) ↔ GivenChanging f m c n
-unfolding changeNumber
-given-changing n f m c = then-room (λ k. _) f m (changeRefusal f c) (λ k. given-change k f c) n
+-- ---- "success is 0"
+
+room-of : (f : List ℕ) (l : Lent) → tried (roomChecks f l) ≡ 0 → Lodged f l
+unfolding roomChecks Holds
+room-of f l e = record { table = success (sound-room f l) .0 e .0 }
+
+pub open-parts : (f : List ℕ) (l : Lent) → openRefusal f l ≡ 0 → (refusal f ≡ 0) × Lodged f l
+unfolding openRefusal openChecks refusal
+open-parts f l e = let h = both-zero (sound-floor f) _ e in (h .0, room-of f l (h .1))
+
+pub change-parts : (f : List ℕ) (l : Lent) (c : List ℕ) → changeNumber f l c ≡ 0 → (changeRefusal f c ≡ 0) × Lodged f l
+unfolding changeNumber changingChecks changeRefusal
+change-parts f l c e = let h = both-zero (sound-change f c) _ e in (h .0, room-of f l (h .1))
+
+-- ---- a number that was given stands, and else the room decides
+
+then-room : {xs : Chain} → Sound xs → (f : List ℕ) (l : Lent) {m n : ℕ} → m ≡ tried xs → n ≡ cond (eqb m 0) (roomRefusal f l) m
+    → n ≡ tried (xs ++ roomChecks f l)
+unfolding roomRefusal
+then-room {xs} s f l {m} {n} e =
+    by-test {x = tried (roomChecks f l)} {y = m} (λ (r : ℕ). n ≡ r → n ≡ tried (xs ++ roomChecks f l)) (says-eq m 0) (λ z h. decides s _ e z h)
+    (λ ne h. h ∙ stands xs _ e ne)
+
+pub opening-number : (f : List ℕ) (l : Lent) {m n : ℕ} → m ≡ refusal f → n ≡ cond (eqb m 0) (roomRefusal f l) m → n ≡ openRefusal f l
+unfolding openRefusal openChecks refusal
+opening-number f l = then-room (sound-floor f) f l
+
+pub changing-number : (f c : List ℕ) (l : Lent) {r : Ruling} {n : ℕ} → r ≡ ruling f c → n ≡ cond (eqb (r .number) 0) (roomRefusal f l) (r .number)
+    → n ≡ changeNumber f l c
+unfolding changeNumber changingChecks changeRefusal
+changing-number f c l e = then-room (sound-change f c) f l (number-ruled f c e)

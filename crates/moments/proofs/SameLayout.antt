@@ -8,10 +8,10 @@ use mathlib.Core.Path.{_≡_, refl, sym, subst}
 use native.Mathlib.Omega.{arith}
 use Rattle.plan.specs.declared.ways.Way.{Way}
 use Rattle.plan.specs.Plan.{lastLine, beamWidth}
-use Rattle.floor.specs.declared.layout.Layout.{Layout}
-use Rattle.floor.specs.declared.layout.Layout.the-variants.{Everywhere, OuterOnly, Bare}
-use Rattle.floor.specs.Layouts.{layoutOf}
-use Rattle.floor.specs.Meaning.{Beamed, Outer, LaidOut}
+use Rattle.layouts.specs.declared.Layout.{Layout}
+use Rattle.layouts.specs.declared.Layout.the-variants.{Everywhere, OuterOnly, Bare}
+use Rattle.layouts.specs.Layouts.{layoutOf}
+use Rattle.layouts.specs.Meaning.{Beamed, Outer, LaidOut}
 use Rattle.floor.specs.Refusal.{refusal}
 use Rattle.floor.proofs.Fair.{fair}
 

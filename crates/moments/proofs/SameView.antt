@@ -5,7 +5,7 @@ use Prim.Native.Nat.{ℕ, _+_, _-_, _/_, _%_, _≤_}
 use mathlib.Core.Bool.{true, cond, _||_}
 use mathlib.Core.List.{List}
 use mathlib.Core.Logic.{inl, inr, ⊎-elim}
-use mathlib.Core.Path.{_≡_, refl, sym, ap}
+use mathlib.Core.Path.{_≡_, refl, sym, ap, _∙_}
 use native.Mathlib.Decide.{ℕ-discrete}
 use native.Mathlib.Omega.{arith}
 use lib.Dec.{eqb}
@@ -16,12 +16,14 @@ use Rattle.plan.specs.declared.ways.End.{End}
 use Rattle.plan.specs.declared.ways.End.the-variants.{Low, High}
 use Rattle.plan.specs.Ways.{across, spanKind, lineKind, sideUnit}
 use Rattle.plan.specs.Plan.{bays, value, dead, live, column, side, span, beamWidth, beamDepth}
-use Rattle.floor.specs.Layouts.{layoutOf}
+use Rattle.plan.specs.Plan.{baysOf}
+use Rattle.layouts.specs.Layouts.{layoutOf}
 use Rattle.changes.specs.Change.{changeKind, changeIndex, changed}
-use Rattle.changes.specs.Meaning.{Taken}
+use Rattle.changes.specs.Meaning.{TakenChange}
 use Rattle.changes.proofs.Kept.{Other, bays-kept, kept}
 use Rattle.lines.specs.Lines.{outer, below, above}
-use Rattle.spans.specs.Views.{slabView, lineView, endLine, outerEnd, innerEnd, lowEnd, highEnd, viewOf}
+use Rattle.lines.specs.Slabs.{slabOf}
+use Rattle.spans.specs.Views.{lineView, endLine, outerEnd, innerEnd, lowEnd, highEnd, viewOf}
 use Rattle.tables.specs.Places.{Place}
 use Rattle.tables.specs.Meaning.{Names}
 use Rattle.tables.specs.Meaning.Names.{loads, own-span, beside, own-line, first-span, last-span}
@@ -35,7 +37,11 @@ pick-else l n x {y} {z} h = by-test (λ w. w ≡ cond (eqb l n) x z) (says-eq l 
 pick-then : {A : Type 0} (l n : ℕ) (x : A) {y z : A} → (l ≡ n → y ≡ z) → cond (eqb l n) y x ≡ cond (eqb l n) z x
 pick-then l n x {y} {z} h = by-test (λ w. w ≡ cond (eqb l n) z x) (says-eq l n) (λ e. by-test (λ w. y ≡ w) (says-eq l n) (λ _. h e) (λ ne. absurd (ne e))) (λ ne. by-test (λ w. x ≡ w) (says-eq l n) (λ e. absurd (ne e)) (λ _. refl))
 
-module _ (f c : List ℕ) (t : Taken f c) where
+last-line : (f : List ℕ) (d : Way) → endLine (baysOf f) d High ≡ bays f d
+last-line f X = refl
+last-line f Y = refl
+
+module _ (f c : List ℕ) (t : TakenChange f c) where
   abbrev g : List ℕ
   g = changed f c
 
@@ -45,7 +51,7 @@ module _ (f c : List ℕ) (t : Taken f c) where
   same-bays : (d : Way) → bays g d ≡ bays f d
   same-bays = bays-kept f c (t .held) (t .fits)
 
-  -- sizes and columns are of no kind that a change may have
+  -- sizes, materials and columns are of no kind that a change may have
   fixed : (k part : ℕ) → part ≤ 3 → (k ≡ 3 → ⊥) → k ≤ 4 → value g k 0 part ≡ value f k 0 part
   fixed k part h ne most = stays k 0 part h (λ q z. ⊎-elim (λ e. ne (omega arith)) (λ r. omega arith) (t .fits .kind))
 
@@ -83,14 +89,18 @@ module _ (f c : List ℕ) (t : Taken f c) where
       abbrev s : ℕ
       s = p .span
 
-      same-slab : slabView g ≡ slabView f
-      unfolding slabView
+      same-slab : slabOf g ≡ slabOf f
+      unfolding slabOf
       same-slab =
           λ i. record {
+            layout = layout-kept i;
+            bays = record { x = same-bays X i; y = same-bays Y i };
+            t = fixed 1 3 (omega arith) (λ q. omega arith) (omega arith) i;
+            fy = fixed 2 2 (omega arith) (λ q. omega arith) (omega arith) i;
+            cx = same-column X i;
+            cy = same-column Y i;
             dead = stays 3 0 1 (omega arith) (λ q _. no (loads (sym q))) i;
             live = stays 3 0 2 (omega arith) (λ q _. no (loads (sym q))) i;
-            t = fixed 1 3 (omega arith) (λ q. omega arith) (omega arith) i;
-            layout = layout-kept i;
           }
 
       same-line : lineView g d l ≡ lineView f d l
@@ -106,7 +116,7 @@ module _ (f c : List ℕ) (t : Taken f c) where
             depth = same-beam d l (λ q z. no (own-line (sym q) z)) .1 i;
           }
 
-      same-end : (e : End) (m : ℕ) → endLine f d e ≡ m → endLine g d e ≡ m → Other c (lineKind (across d)) m → outerEnd g d e ≡ outerEnd f d e
+      same-end : (e : End) (m : ℕ) → endLine (baysOf f) d e ≡ m → endLine (baysOf g) d e ≡ m → Other c (lineKind (across d)) m → outerEnd g d e ≡ outerEnd f d e
       unfolding outerEnd
       same-end e m a b ne =
           rw (a, b) (λ i. record { outer = true; code = same-side d e i; width = same-beam (across d) m ne .0 i; depth = same-beam (across d) m ne .1 i })
@@ -119,7 +129,7 @@ module _ (f c : List ℕ) (t : Taken f c) where
       unfolding highEnd
       same-high =
           rw (same-bays d)
-          (pick-then (s + 1) (bays f d) innerEnd (λ z. same-end High (bays f d) refl (same-bays d) (λ q e. no (last-span (sym q) (sym e) z))))
+          (pick-then (s + 1) (bays f d) innerEnd (λ z. same-end High (bays f d) (last-line f d) (last-line g d ∙ same-bays d) (λ q e. no (last-span (sym q) (sym e) z))))
 
       -- the law that makes "every other keeps what it held" right
       pub same-view : viewIn g p ≡ viewIn f p

@@ -5,10 +5,10 @@ use mathlib.Core.List.{List}
 use mathlib.Core.Path.{_≡_}
 use native.Mathlib.Omega.{arith}
 use Rattle.floor.specs.Refusal.{refusal}
-use Rattle.verdict.specs.Limits.{verdict}
+use Rattle.limits.specs.Limits.{verdict}
 use Rattle.spans.specs.Works.{spanWork}
-use Rattle.spans.specs.Sixteen.{sixteen, endStrips, betweenStrips}
-use Rattle.spans.specs.Workable.{ClearSpan}
+use Rattle.spans.specs.Record.{recordOf, endStrips, betweenStrips}
+use Rattle.spans.specs.Asked.{ClearSpan}
 use Rattle.spans.proofs.Clear.{workable, one-outer}
 use Rattle.spans.proofs.Whole.{sections, balanced}
 use Rattle.strips.specs.Strips.{split}
@@ -24,7 +24,7 @@ by-section P a b c (suc (suc zero)) h = c
 by-section P a b c (suc (suc (suc j))) h = absurd (omega arith)
 
 pub adds-up : {f t after : List ℕ} → refusal f ≡ 0 → verdict f ≡ 0 → TableOf f t after → (p : Place) → Inside f p → AddsUp f after p
-unfolding sixteen endStrips betweenStrips split
+unfolding recordOf endStrips betweenStrips split
 adds-up {f} {t} {after} accepted clear table p h =
     let here : ClearSpan f (p .way) (p .line) (p .span) = record { accepted = accepted; clear = clear; line = h .line; span = h .span } in
     let s = sections (workable here) in
@@ -35,7 +35,7 @@ adds-up {f} {t} {after} accepted clear table p h =
           (rw (at 3 (omega arith), at 4 (omega arith), at 5 (omega arith), at 1 (omega arith)) (s .0 .whole))
           (rw (at 8 (omega arith), at 9 (omega arith), at 10 (omega arith), at 6 (omega arith)) (s .1 .whole))
           (rw (at 13 (omega arith), at 14 (omega arith), at 15 (omega arith), at 11 (omega arith)) (s .2 .whole));
-      balance = rw (at 1 (omega arith), at 11 (omega arith), at 6 (omega arith), at 0 (omega arith)) (balanced (spanWork (viewIn f p)) _ _ (one-outer here));
+      balance = rw (at 1 (omega arith), at 11 (omega arith), at 6 (omega arith), at 0 (omega arith)) (balanced (viewIn f p .slab .layout) (spanWork (viewIn f p)) _ _ (one-outer here));
     }
   where
     at : (n : ℕ) → n < recordWidth → numberIn f after p n ≡ rightNumber f p n

@@ -6,50 +6,48 @@ use mathlib.Core.List.{List}
 use mathlib.Core.Path.{_≡_, refl, sym, ap, _∙_}
 use native.Mathlib.Omega.{arith}
 use lib.Dec.{eqb}
-use lib.ListN.{length}
 use borrow.Author.Tests.{ne-eqb, eqb-true, eqb-false}
 use Rattle.numbers.specs.Records.{every}
 use Rattle.numbers.proofs.Tests.{says-itself, says-and}
 use Rattle.numbers.proofs.Written.{same-written}
 use Rattle.records.specs.Kinds.{countOf}
-use Rattle.floor.specs.Refusal.{refusal}
-use Rattle.changes.specs.Change.{changeKind, changeIndex, changed, orElse}
-use Rattle.changes.specs.Meaning.{Taken}
+use Rattle.changes.specs.Change.{changeKind, changeIndex, changed}
+use Rattle.changes.specs.declared.Ruling.{Ruling}
+use Rattle.changes.specs.Refusal.{ruling}
+use Rattle.changes.specs.Asked.{Placed}
+use Rattle.changes.specs.Meaning.{TakenChange}
 use Rattle.changes.proofs.Kept.{many-kept}
-use Rattle.verdict.specs.Answers.{answer}
-use Rattle.verdict.specs.Limits.{verdict}
+use Rattle.changes.proofs.Given.{number-ruled, stores}
+use Rattle.answers.specs.declared.Answer.{Answer}
+use Rattle.answers.specs.Answers.{answer}
+use Rattle.limits.specs.Limits.{verdict}
 use Rattle.tables.specs.Width.{recordWidth}
-use Rattle.tables.specs.Places.{recordCount}
+use Rattle.lines.specs.declared.slab.Slab.{Slab}
+use Rattle.lines.proofs.Slabs.{sized-of}
+use Rattle.tables.specs.Places.{recordsOf, recordCount}
+use Rattle.tables.specs.Asked.{Bayed}
 use Rattle.tables.specs.Named.{namedAt}
 use Rattle.tables.specs.Blank.{zeros, blanked}
 use Rattle.tables.specs.Meaning.Names.{loads}
+use Rattle.tables.proofs.Numbered.{bayed, counted}
 use Rattle.tables.proofs.Meaning.{says-named-at}
-use Rattle.frames.specs.Held.{Standing, Asked}
-use Rattle.frames.specs.Table.{recordAt, renamed}
-use Rattle.moments.specs.Tables.{clear, rightRecord, fresh}
+use Rattle.frames.specs.Asked.{Listed, InTable}
+use Rattle.frames.specs.Table.{recordAt, namedWritten}
+use Rattle.moments.specs.Lent.{Lent, lent}
+use Rattle.moments.specs.Tables.{rightRecord, fresh, afresh}
 use Rattle.moments.specs.Opening.{openRefusal, Opened}
-use Rattle.moments.specs.Changing.{changeNumber, rewritten, Changed}
-use Rattle.moments.specs.InHand.{Roomy, Rewriting}
-use Rattle.moments.proofs.Fresh.{both-zero, room-of, right-clear}
-use Rattle.moments.proofs.Demand.{taken-of}
-use Rattle.moments.proofs.Meaning.{room-after}
-
--- ---- a refusal that stands, and one that is tried after it
-
-pub earlier : (a b : ℕ) {n : ℕ} → n ≡ a → (n ≡ 0 → ⊥) → n ≡ orElse a b
-unfolding orElse
-earlier a b {n} e ne = rw (← e, ne-eqb n 0 ne)
-
-pub later : (a b : ℕ) {n : ℕ} → a ≡ 0 → n ≡ b → n ≡ orElse a b
-unfolding orElse
-later a b z e = rw z e
+use Rattle.moments.specs.Changing.{changeNumber, rewritten, remade, Changed}
+use Rattle.moments.specs.Asked.{Settling, Judging, Rewriting}
+use Rattle.moments.proofs.Fresh.{right-clear}
+use Rattle.moments.proofs.Room.{open-parts, change-parts}
+use Rattle.moments.proofs.Demand.{taken-of, lodged-changed}
 
 -- ---- the whole table
 
 module _ (f t : List ℕ) where
   -- a change of the loads names every record
-  all-named : verdict f ≡ 0 → renamed f 3 0 t ≡ fresh f t
-  unfolding renamed fresh
+  all-named : verdict f ≡ 0 → namedWritten f 3 0 t ≡ fresh f t
+  unfolding namedWritten fresh
   all-named e =
       same-written recordWidth (namedAt f 3 0) every (recordAt f) (rightRecord f) 0 (recordCount f) t
       (λ k _ h. says-named-at f 3 0 (omega arith) .passes (loads refl)) (λ k _ h. sym (right-clear f e k))
@@ -58,77 +56,97 @@ module _ (f t : List ℕ) where
   unfolding blanked fresh rightRecord
   all-blank ne = same-written recordWidth every every zeros (rightRecord f) 0 (recordCount f) t (λ k _ h. refl) (λ k _ h. rw (ne-eqb (verdict f) 0 ne))
 
-  module _ {stands : Bool} (h : Roomy f t stands) where
+  module _ {slab : Slab} {a : List (List ℕ)} {stands : Bool} (h : Judging f t slab a stands) where
     stands-clear : stands ≡ true → verdict f ≡ 0
     stands-clear e = eqb-true (verdict f) 0 (sym (h .verdict) ∙ e)
 
-    pub standing : stands ≡ true → Standing f t
-    standing e = record { accepted = h .accepted; clear = stands-clear e; table = h .table }
+    pub in-table : {kind index : ℕ} → stands ≡ true → Listed f kind index → InTable f t slab a kind index
+    in-table e there =
+        record {
+          standing = record { accepted = h .accepted; clear = stands-clear e; shared = h .shared; table = h .table };
+          alphas = h .alphas;
+          listed = there;
+        }
 
-    pub filled-all : {u : List ℕ} → stands ≡ true → u ≡ renamed f 3 0 t → u ≡ fresh f t
+    -- the bays at hand are the floor's
+    pub few-bays : Bayed (slab .bays)
+    few-bays = bayed (sized-of f (h .shared))
+
+    pub count-is : {n : ℕ} → n ≡ recordsOf (slab .bays) → n ≡ recordCount f
+    count-is = counted (sized-of f (h .shared))
+
+    pub filled-all : {u : List ℕ} → stands ≡ true → u ≡ namedWritten f 3 0 t → u ≡ fresh f t
     filled-all e q = q ∙ all-named (stands-clear e)
 
-    pub filled-blank : {u : List ℕ} {n : ℕ} → stands ≡ false → n ≡ recordCount f → u ≡ blanked n t → u ≡ fresh f t
-    filled-blank e n q = q ∙ rw n (all-blank (eqb-false (verdict f) 0 (sym (h .verdict) ∙ e)))
+    pub filled-blank : {u : List ℕ} {n : ℕ} → stands ≡ false → n ≡ recordsOf (slab .bays) → u ≡ blanked n t → u ≡ fresh f t
+    filled-blank e n q = q ∙ rw (count-is n) (all-blank (eqb-false (verdict f) 0 (sym (h .verdict) ∙ e)))
 
 -- by a change of a record that is there, where the verdict before was clear or not
-module _ (f t : List ℕ) (before : Bool) {after both : Bool} {kind index : ℕ} (h : Rewriting f t after kind index) (e : both ≡ (before && after)) where
+module _ (f t : List ℕ) (before : Bool) {slab : Slab} {a : List (List ℕ)} {after both : Bool} {kind index : ℕ}
+    (h : Rewriting f t slab a after kind index) (e : both ≡ (before && after)) where
   after-clear : both ≡ true → after ≡ true
   after-clear q = says-and (says-itself before) (says-itself after) .holds (sym e ∙ q) .1
 
-  pub named-standing : both ≡ true → Standing f t
-  named-standing q = standing f t (h .roomy) (after-clear q)
+  pub named-in-table : both ≡ true → InTable f t slab a kind index
+  named-in-table q = in-table f t (h .judging) (after-clear q) (h .listed)
 
-  pub rewritten-named : {u : List ℕ} → both ≡ true → u ≡ renamed f kind index t → u ≡ rewritten before f kind index t
+  pub rewritten-named : {u : List ℕ} → both ≡ true → u ≡ namedWritten f kind index t → u ≡ rewritten before f kind index t
   unfolding rewritten
-  rewritten-named q eu = eu ∙ rw (← h .roomy .verdict, ← e, q)
+  rewritten-named q eu = eu ∙ rw (← h .judging .verdict, ← e, q)
 
   pub rewritten-whole : {u : List ℕ} → both ≡ false → u ≡ fresh f t → u ≡ rewritten before f kind index t
   unfolding rewritten
-  rewritten-whole q eu = eu ∙ rw (← h .roomy .verdict, ← e, q)
+  rewritten-whole q eu = eu ∙ rw (← h .judging .verdict, ← e, q)
 
-pub loads-there : (f : List ℕ) → Asked f 3 0
+pub loads-there : (f : List ℕ) → Listed f 3 0
 unfolding countOf
 loads-there f = record { there = omega arith }
 
 -- ---- opening
 
-pub opened-accepted : (f : List ℕ) (n : ℕ) {number : ℕ} → number ≡ openRefusal f n → number ≡ 0 → refusal f ≡ 0
-unfolding openRefusal
-opened-accepted f n e z = both-zero _ _ (sym e ∙ z) .0
+module _ (f : List ℕ) (l : Lent) {number : ℕ} (e : number ≡ openRefusal f l) where
+  pub opened-refused : {a : Answer} → (number ≡ 0 → ⊥) → a ≡ answer number 255 → Opened f l a l
+  opened-refused ne ea = record { answer = ea ∙ rw (← e, ne-eqb number 0 ne); lent = rw (← e, ne-eqb number 0 ne) }
 
-module _ (f t : List ℕ) {number : ℕ} (e : number ≡ openRefusal f (length t)) where
-  pub opened-refused : (number ≡ 0 → ⊥) → Opened f t (answer number 255) t
-  opened-refused ne = record { answer = rw (← e, ne-eqb number 0 ne); table = rw (← e, ne-eqb number 0 ne) }
+  -- all records of an accepted floor are settled as by a change of its loads
+  pub opened-settling : number ≡ 0 → Settling f (l .table) 3 0
+  opened-settling z =
+      let h = open-parts f l (sym e ∙ z) in
+      record { accepted = h .0; table = record { room = h .1 .table }; listed = loads-there f }
 
-  pub opened-filled : {v : ℕ} {u : List ℕ} → number ≡ 0 → v ≡ verdict f → u ≡ fresh f t → Opened f t (answer 0 v) u
-  opened-filled z ev eu = record { answer = rw (← e, z) (ap (answer 0) ev); table = rw (← e, z) eu }
-
-  pub opened-roomy : {v : ℕ} → number ≡ 0 → v ≡ verdict f → Roomy f t (eqb v 0)
-  unfolding openRefusal
-  opened-roomy z ev =
-      record { accepted = both-zero _ _ (sym e ∙ z) .0; table = record { room = room-of f (length t) (both-zero _ _ (sym e ∙ z) .1) }; verdict = rw ev }
+  pub opened-filled : {v : ℕ} {a : Answer} {l′ : Lent} → number ≡ 0 → v ≡ verdict f → l′ ≡ afresh f l → a ≡ answer 0 v → Opened f l a l′
+  opened-filled z ev el ea = record { answer = ea ∙ rw (← e, z) (ap (answer 0) ev); lent = rw (← e, z) el }
 
 -- ---- a change
 
-pub changed-takes : (f c : List ℕ) (n : ℕ) {number : ℕ} → number ≡ changeNumber f n c → number ≡ 0 → Taken f c
-changed-takes f c n e z = taken-of f c n (sym e ∙ z)
+module _ (f c : List ℕ) (l : Lent) {number : ℕ} (e : number ≡ changeNumber f l c) where
+  pub changed-refused : {a : Answer} → (number ≡ 0 → ⊥) → a ≡ answer number 255 → Changed f l c a f l
+  changed-refused ne ea =
+      record { answer = ea ∙ rw (← e, ne-eqb number 0 ne); floor = rw (← e, ne-eqb number 0 ne); lent = rw (← e, ne-eqb number 0 ne) }
 
-module _ (f t c : List ℕ) {number : ℕ} (e : number ≡ changeNumber f (length t) c) where
-  pub changed-refused : (number ≡ 0 → ⊥) → Changed f t c (answer number 255) f t
-  changed-refused ne =
-      record { answer = rw (← e, ne-eqb number 0 ne); floor = rw (← e, ne-eqb number 0 ne); table = rw (← e, ne-eqb number 0 ne) }
+  pub changed-takes : number ≡ 0 → TakenChange f c
+  changed-takes z = taken-of f c l (sym e ∙ z)
 
-  pub changed-taken : {g u : List ℕ} {before v kind index : ℕ} → number ≡ 0 → before ≡ verdict f → g ≡ changed f c → v ≡ verdict g
-      → kind ≡ changeKind c → index ≡ changeIndex c → u ≡ rewritten (eqb before 0) g kind index t → Changed f t c (answer 0 v) g u
-  changed-taken z eb eg ev ek ei eu =
-      record { answer = rw (← e, z) (ap (answer 0) (ev ∙ rw eg)); floor = rw (← e, z) eg; table = rw (← e, z) (eu ∙ rw (eb, eg, ek, ei)) }
+  pub changed-placed : {r : Ruling} → number ≡ 0 → r ≡ ruling f c → Placed f (r .place) c
+  changed-placed z er = stores f c er (number-ruled f c er ∙ change-parts f l c (sym e ∙ z) .0)
 
-  pub changed-rewriting : {g : List ℕ} {v kind index : ℕ} → number ≡ 0 → g ≡ changed f c → v ≡ verdict g
-      → kind ≡ changeKind c → index ≡ changeIndex c → Rewriting g t (eqb v 0) kind index
-  changed-rewriting z eg ev ek ei =
-      let q = changed-takes f c (length t) e z in
+  -- the record that a taken change was put into is there
+  pub changed-settling : {g : List ℕ} {kind index : ℕ} → number ≡ 0 → g ≡ changed f c → kind ≡ changeKind c → index ≡ changeIndex c
+      → Settling g (l .table) kind index
+  changed-settling z eg ek ei =
+      let q = changed-takes z in
       record {
-        roomy = record { accepted = rw eg (q .left); table = record { room = rw eg (room-after f t c (sym e ∙ z)) }; verdict = rw ev };
-        asked = record { there = rw (eg, ek, ei, many-kept f c (q .held) (q .fits) (changeKind c)) (q .fits .index) };
+        accepted = rw eg (q .left);
+        table = record { room = rw eg (lodged-changed f c l (sym e ∙ z) .table) };
+        listed = record { there = rw (eg, ek, ei, many-kept f c (q .held) (q .fits) (changeKind c)) (q .fits .index) };
       }
+
+  pub changed-taken : {g : List ℕ} {l′ : Lent} {a : Answer} {v : ℕ} → number ≡ 0 → g ≡ changed f c → v ≡ verdict g → l′ ≡ remade f c l
+      → a ≡ answer 0 v → Changed f l c a g l′
+  changed-taken z eg ev el ea =
+      record { answer = ea ∙ rw (← e, z) (ap (answer 0) (ev ∙ rw eg)); floor = rw (← e, z) eg; lent = rw (← e, z) el }
+
+-- a table rewritten by what was read of floor and change
+pub remade-table : (f c t : List ℕ) {g u : List ℕ} {before kind index : ℕ} → before ≡ verdict f → g ≡ changed f c
+    → kind ≡ changeKind c → index ≡ changeIndex c → u ≡ rewritten (eqb before 0) g kind index t → lent u ≡ remade f c (lent t)
+remade-table f c t eb eg ek ei eu = ap lent (eu ∙ rw (eb, eg, ek, ei))

@@ -3,36 +3,44 @@
 -- Assumes nothing.
 use Prim.Native.Nat.{ℕ}
 use mathlib.Core.Bool.{Bool, cond, _&&_}
-use mathlib.Core.List.{List}
+use mathlib.Core.List.{List, _++_}
 use mathlib.Core.Path.{_≡_}
 use lib.Dec.{eqb}
-use lib.ListN.{length}
-use Rattle.changes.specs.Change.{changeKind, changeIndex, changed, orElse, changeRefusal}
-use Rattle.verdict.specs.declared.Answer.{Answer}
-use Rattle.verdict.specs.Limits.{verdict}
-use Rattle.frames.specs.Table.{renamed}
-use Rattle.moments.specs.Tables.{clear, fresh, roomRefusal}
-use Rattle.moments.specs.Opening.{answered}
+use Rattle.numbers.specs.Chains.{Chain, tried}
+use Rattle.changes.specs.Change.{changeKind, changeIndex, changed}
+use Rattle.changes.specs.Refusal.{changeChecks}
+use Rattle.answers.specs.declared.Answer.{Answer}
+use Rattle.answers.specs.Answers.{answered}
+use Rattle.limits.specs.Limits.{verdict}
+use Rattle.frames.specs.Table.{namedWritten}
+use Rattle.moments.specs.Lent.{Lent}
+use Rattle.moments.specs.Tables.{clear, fresh, roomChecks}
 
--- the refusal of change c, with a table of n numbers
-unfoldable pub changeNumber : List ℕ → ℕ → List ℕ → ℕ
-changeNumber f n c = orElse (changeRefusal f c) (roomRefusal f n)
+-- the refusal of change c
+unfoldable pub changingChecks : List ℕ → Lent → List ℕ → Chain
+changingChecks f l c = changeChecks f c ++ roomChecks f l
+
+unfoldable pub changeNumber : List ℕ → Lent → List ℕ → ℕ
+changeNumber f l c = tried (changingChecks f l c)
 
 -- "If the verdict before or after is not 0, the whole table is written. Otherwise the records named here get their right value and every
 -- other keeps what it held, right or not." To what is now floor f, by a change of this kind and index.
 unfoldable pub rewritten : Bool → List ℕ → ℕ → ℕ → List ℕ → List ℕ
-rewritten before f kind index t = cond (before && clear f) (renamed f kind index t) (fresh f t)
+rewritten before f kind index t = cond (before && clear f) (namedWritten f kind index t) (fresh f t)
 
--- what a change leaves of the floor and of the table; "Refusals write nothing"
-abbrev pub floorAfter : List ℕ → ℕ → List ℕ → List ℕ
-floorAfter f n c = cond (eqb (changeNumber f n c) 0) (changed f c) f
+-- everything lent, after change c to floor f was stored
+abbrev pub remade : List ℕ → List ℕ → Lent → Lent
+remade f c l = record { table = rewritten (clear f) (changed f c) (changeKind c) (changeIndex c) (l .table) }
 
-abbrev pub tableAfter : List ℕ → List ℕ → List ℕ → List ℕ
-tableAfter f t c =
-    cond (eqb (changeNumber f (length t) c) 0) (rewritten (clear f) (changed f c) (changeKind c) (changeIndex c) t) t
+-- what a change leaves of the floor and of what is lent; "Refusals write nothing"
+abbrev pub floorAfter : List ℕ → Lent → List ℕ → List ℕ
+floorAfter f l c = cond (eqb (changeNumber f l c) 0) (changed f c) f
 
--- the answer, the floor and the whole lent slice at exit
-pub record Changed (f t c : List ℕ) (a : Answer) (floor-after table-after : List ℕ) : Type 0 where
-  pub answer : a ≡ answered (changeNumber f (length t) c) (verdict (changed f c))
-  pub floor : floor-after ≡ floorAfter f (length t) c
-  pub table : table-after ≡ tableAfter f t c
+abbrev pub lentAfter : List ℕ → Lent → List ℕ → Lent
+lentAfter f l c = cond (eqb (changeNumber f l c) 0) (remade f c l) l
+
+-- the answer, the floor and everything lent at exit
+pub record Changed (f : List ℕ) (l : Lent) (c : List ℕ) (a : Answer) (f′ : List ℕ) (l′ : Lent) : Type 0 where
+  pub answer : a ≡ answered (changeNumber f l c) (verdict (changed f c))
+  pub floor : f′ ≡ floorAfter f l c
+  pub lent : l′ ≡ lentAfter f l c

@@ -1,6 +1,7 @@
+pub mod Lent
 pub mod Tables
 pub mod Opening
 pub mod Changing
-pub mod InHand
 pub mod Mornings
 pub mod Meaning
+pub mod Asked

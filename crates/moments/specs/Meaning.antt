@@ -4,34 +4,31 @@
 use Prim.Native.Nat.{ℕ, _+_, _*_, _≤_, _<_}
 use mathlib.Core.Bool.{cond}
 use mathlib.Core.List.{List}
+use mathlib.Core.Logic.{_↔_}
 use mathlib.Core.Path.{_≡_}
 use lib.ListN.{length, getD}
-use Rattle.floor.specs.Meaning.{Given}
+use Rattle.numbers.specs.Chains.{GivenBy}
 use Rattle.changes.specs.Change.{changeKind, changeIndex, changed}
-use Rattle.changes.specs.Meaning.{GivenChange}
-use Rattle.verdict.specs.declared.Answer.{Answer}
-use Rattle.verdict.specs.Limits.{verdict}
-use Rattle.verdict.specs.Meaning.{Broken}
-use Rattle.spans.specs.Sixteen.{sixteen}
+use Rattle.answers.specs.declared.Answer.{Answer}
+use Rattle.limits.specs.Limits.{verdict}
+use Rattle.limits.specs.Meaning.{Broken}
+use Rattle.spans.specs.Record.{recordOf}
 use Rattle.spans.specs.Meaning.{unrestrained}
 use Rattle.tables.specs.Width.{recordWidth}
 use Rattle.tables.specs.Places.{Place, Inside, numberOf, recordCount}
 use Rattle.tables.specs.Meaning.{Names}
 use Rattle.frames.specs.Table.{viewIn}
-
--- 8: "lent table shorter than 16·((ny+1)nx+(nx+1)ny) numbers", tried after numbers whose causes are G, of a slice of m numbers
-pub data ThenRoom (G : ℕ → Type 0) (f : List ℕ) (m : ℕ) : ℕ → Type 0 where
-  earlier : {n : ℕ} → ¬ (n ≡ 0) → G n → ThenRoom G f m n
-  eight : G 0 → m < recordCount f * recordWidth → ThenRoom G f m 8
-  success : G 0 → recordCount f * recordWidth ≤ m → ThenRoom G f m 0
+use Rattle.moments.specs.Lent.{Lent}
+use Rattle.moments.specs.Opening.{openChecks}
+use Rattle.moments.specs.Changing.{changingChecks}
 
 -- "Opening a floor tries 1 to 8"
-abbrev pub GivenOpening : List ℕ → ℕ → ℕ → Type 0
-GivenOpening f m = ThenRoom (λ n. Given n f) f m
+abbrev pub GivenOpening : List ℕ → Lent → ℕ → Type 0
+GivenOpening f l = GivenBy (openChecks f l)
 
 -- "A change tries 1 to 7 on the held floor, 9, then 5 to 7 on the changed floor, then 8"
-abbrev pub GivenChanging : List ℕ → ℕ → List ℕ → ℕ → Type 0
-GivenChanging f m c = ThenRoom (λ n. GivenChange n f c) f m
+abbrev pub GivenChanging : List ℕ → Lent → List ℕ → ℕ → Type 0
+GivenChanging f l c = GivenBy (changingChecks f l c)
 
 -- number n of the record of span p
 abbrev pub numberIn : List ℕ → List ℕ → Place → ℕ → ℕ
@@ -39,7 +36,7 @@ numberIn f t p n = getD t (numberOf f p * recordWidth + n) 0
 
 -- its right value
 abbrev pub rightNumber : List ℕ → Place → ℕ → ℕ
-rightNumber f p n = getD (sixteen (viewIn f p)) n 0
+rightNumber f p n = getD (recordOf (viewIn f p)) n 0
 
 -- the table of f in the slice t as lent: "Verdict not 0: all of them are 0. Numbers past the table stay"
 pub record TableOf (f t after : List ℕ) : Type 0 where
@@ -67,26 +64,37 @@ pub record NamedOf (f : List ℕ) (kind index : ℕ) (t after : List ℕ) : Type
   pub named : (p : Place) → Inside f p → Names f kind index p → (n : ℕ) → n < recordWidth → numberIn f after p n ≡ rightNumber f p n
   pub others : (p : Place) → Inside f p → ¬ Names f kind index p → (n : ℕ) → n < recordWidth → numberIn f after p n ≡ numberIn f t p n
 
+-- everything lent: filled for floor f; or with what a change of this kind and index names
+pub record LentOf (f : List ℕ) (l l′ : Lent) : Type 0 where
+  pub table : TableOf f (l .table) (l′ .table)
+
+pub record LentNamed (f : List ℕ) (kind index : ℕ) (l l′ : Lent) : Type 0 where
+  pub table : NamedOf f kind index (l .table) (l′ .table)
+
 -- "A refused opening or change gives verdict 255"; else the verdict names exactly what is broken in floor g
 pub record Judged (g : List ℕ) (number : ℕ) (a : Answer) : Type 0 where
   pub refusal : a .refusal ≡ number
   pub refused : ¬ (number ≡ 0) → a .value ≡ 255
   pub verdict : number ≡ 0 → Broken g (a .value)
 
+-- ".. which no floor earns, so a refusal never reads as clear"
+abbrev pub Earned : Answer → Type 0
+Earned a = (a .value ≡ 255) ↔ ¬ (a .refusal ≡ 0)
+
 -- opening: "Refusals write nothing"
-pub record OpeningSays (f t : List ℕ) (a : Answer) (after : List ℕ) : Type 0 where
+pub record OpeningSays (f : List ℕ) (l : Lent) (a : Answer) (l′ : Lent) : Type 0 where
   pub number : ℕ
-  pub given : GivenOpening f (length t) number
+  pub given : GivenOpening f l number
   pub answer : Judged f number a
-  pub refused : ¬ (number ≡ 0) → after ≡ t
-  pub filled : number ≡ 0 → TableOf f t after
+  pub refused : ¬ (number ≡ 0) → l′ ≡ l
+  pub filled : number ≡ 0 → LentOf f l l′
 
 -- a change: "If the verdict before or after is not 0, the whole table is written. Otherwise the records named here"
-pub record ChangeSays (f t c : List ℕ) (a : Answer) (floor-after table-after : List ℕ) : Type 0 where
+pub record ChangeSays (f : List ℕ) (l : Lent) (c : List ℕ) (a : Answer) (f′ : List ℕ) (l′ : Lent) : Type 0 where
   pub number : ℕ
-  pub given : GivenChanging f (length t) c number
+  pub given : GivenChanging f l c number
   pub answer : Judged (changed f c) number a
-  pub refused : ¬ (number ≡ 0) → (floor-after ≡ f) × (table-after ≡ t)
-  pub taken : number ≡ 0 → floor-after ≡ changed f c
-  pub whole : number ≡ 0 → ¬ ((verdict f ≡ 0) × (verdict (changed f c) ≡ 0)) → TableOf (changed f c) t table-after
-  pub some : number ≡ 0 → verdict f ≡ 0 → verdict (changed f c) ≡ 0 → NamedOf (changed f c) (changeKind c) (changeIndex c) t table-after
+  pub refused : ¬ (number ≡ 0) → (f′ ≡ f) × (l′ ≡ l)
+  pub taken : number ≡ 0 → f′ ≡ changed f c
+  pub whole : number ≡ 0 → ¬ ((verdict f ≡ 0) × (verdict (changed f c) ≡ 0)) → LentOf (changed f c) l l′
+  pub some : number ≡ 0 → verdict f ≡ 0 → verdict (changed f c) ≡ 0 → LentNamed (changed f c) (changeKind c) (changeIndex c) l l′

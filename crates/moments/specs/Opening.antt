@@ -2,25 +2,24 @@
 -- Assumes nothing.
 use Prim.Native.Nat.{ℕ}
 use mathlib.Core.Bool.{cond}
-use mathlib.Core.List.{List}
+use mathlib.Core.List.{List, _++_}
 use mathlib.Core.Path.{_≡_}
 use lib.Dec.{eqb}
-use lib.ListN.{length}
-use Rattle.floor.specs.Refusal.{refusal}
-use Rattle.changes.specs.Change.{orElse}
-use Rattle.verdict.specs.declared.Answer.{Answer}
-use Rattle.verdict.specs.Answers.{answer}
-use Rattle.verdict.specs.Limits.{verdict}
-use Rattle.moments.specs.Tables.{fresh, roomRefusal}
+use Rattle.numbers.specs.Chains.{Chain, tried}
+use Rattle.floor.specs.Refusal.{floorChecks}
+use Rattle.answers.specs.declared.Answer.{Answer}
+use Rattle.answers.specs.Answers.{answered}
+use Rattle.limits.specs.Limits.{verdict}
+use Rattle.moments.specs.Lent.{Lent}
+use Rattle.moments.specs.Tables.{afresh, roomChecks}
 
-unfoldable pub openRefusal : List ℕ → ℕ → ℕ
-openRefusal f n = orElse (refusal f) (roomRefusal f n)
+unfoldable pub openChecks : List ℕ → Lent → Chain
+openChecks f l = floorChecks f ++ roomChecks f l
 
--- "A refused opening or change gives verdict 255": what is answered where the number is given, and v the verdict
-abbrev pub answered : ℕ → ℕ → Answer
-answered number v = cond (eqb number 0) (answer 0 v) (answer number 255)
+unfoldable pub openRefusal : List ℕ → Lent → ℕ
+openRefusal f l = tried (openChecks f l)
 
--- the answer, and the whole lent slice at exit
-pub record Opened (f t : List ℕ) (a : Answer) (after : List ℕ) : Type 0 where
-  pub answer : a ≡ answered (openRefusal f (length t)) (verdict f)
-  pub table : after ≡ cond (eqb (openRefusal f (length t)) 0) (fresh f t) t
+-- the answer, and everything lent at exit; "Refusals write nothing"
+pub record Opened (f : List ℕ) (l : Lent) (a : Answer) (l′ : Lent) : Type 0 where
+  pub answer : a ≡ answered (openRefusal f l) (verdict f)
+  pub lent : l′ ≡ cond (eqb (openRefusal f l) 0) (afresh f l) l

@@ -1,15 +1,19 @@
--- The table of a floor, worked out afresh: "Verdict not 0: all of them are 0. Numbers past the table stay."
+-- The table of a floor, worked out afresh: "Verdict not 0: all of them are 0. Numbers past the table stay"; and what room is asked for it.
 -- Assumes nothing.
-use Prim.Native.Nat.{ℕ, _*_}
+use Prim.Native.Nat.{ℕ, _*_, _≤_}
 use mathlib.Core.Bool.{Bool, cond}
-use mathlib.Core.List.{List}
-use lib.Dec.{eqb, ltb}
+use mathlib.Core.List.{List, [], _∷_}
+use lib.Dec.{eqb, leb}
+use lib.ListN.{length}
 use Rattle.numbers.specs.Records.{written, every}
-use Rattle.verdict.specs.Limits.{verdict}
+use Rattle.numbers.specs.Chains.{Chain, tried}
+use Rattle.numbers.specs.Chains.Check.{_unless_says_}
+use Rattle.limits.specs.Limits.{verdict}
 use Rattle.tables.specs.Width.{recordWidth}
 use Rattle.tables.specs.Places.{recordCount}
 use Rattle.tables.specs.Blank.{zeros}
 use Rattle.frames.specs.Table.{recordAt}
+use Rattle.moments.specs.Lent.{Lent}
 
 -- "moments stand only while no limit is broken and the slab is thick enough"
 abbrev pub clear : List ℕ → Bool
@@ -23,6 +27,15 @@ rightRecord f k = cond (clear f) (recordAt f k) (zeros k)
 unfoldable pub fresh : List ℕ → List ℕ → List ℕ
 fresh f t = written recordWidth every (rightRecord f) (recordCount f) t
 
--- 8: "lent table shorter than 16·((ny+1)nx+(nx+1)ny) numbers", of a slice of n numbers
-unfoldable pub roomRefusal : List ℕ → ℕ → ℕ
-roomRefusal f n = cond (ltb n (recordCount f * recordWidth)) 8 0
+-- everything lent, worked out afresh
+abbrev pub afresh : List ℕ → Lent → Lent
+afresh f l = record { table = fresh f (l .table) }
+
+-- what is asked of what is lent, after 1 to 7 or 9
+unfoldable pub roomChecks : List ℕ → Lent → Chain
+roomChecks f l =
+    -- "lent table shorter than 16·((ny+1)nx+(nx+1)ny) numbers"
+    8 unless leb (recordCount f * recordWidth) (length (l .table)) says (recordCount f * recordWidth ≤ length (l .table)) ∷ []
+
+unfoldable pub roomRefusal : List ℕ → Lent → ℕ
+roomRefusal f l = tried (roomChecks f l)

@@ -1,116 +1,119 @@
-// A floor and its lent table: opening, and changes. Nothing is remembered: each call judges the floor afresh.
+// A floor and what is lent beside it: opening, and changes. Nothing is remembered: each call judges the floor afresh.
+ghost use mathlib.Core.Bool.{cond};
 ghost use mathlib.Core.Path.{_≡_};
+ghost use lib.Dec.{eqb};
+ghost use Rattle.limits.specs.Limits.{verdict};
+ghost use Rattle.moments.specs.Lent.{lent};
 ghost use Rattle.moments.specs.Tables.{fresh, roomRefusal};
-ghost use Rattle.moments.specs.Opening.{openRefusal, Opened};
-ghost use Rattle.moments.specs.Changing.{changeNumber, rewritten, Changed};
-ghost use Rattle.moments.specs.InHand.{Roomy, Rewriting};
+ghost use Rattle.moments.specs.Opening.{Opened};
+ghost use Rattle.moments.specs.Changing.{rewritten, Changed};
+ghost use Rattle.moments.specs.Asked.{Settling, Judging, Rewriting};
+use answers::Answer;
+use answers::refused;
+use answers::success;
 use floor::refusal;
 use frames::write_named;
+use lines::line::alphas;
+use lines::line::spans;
+use lines::slab::Slab;
+use lines::slab::slab_of;
 use numbers::both;
 use plan::fields::u16_at;
+use plan::read::bays_of;
+use tables::named::LOADS;
 use tables::places::record_count;
 use tables::write::WIDTH;
 use tables::write::blank;
-use verdict::Answer;
+use verdict::broken;
 use verdict::verdict;
 
-// 8, or 0: a table of n numbers.
-fn room_refusal(f: &[u8], n: usize) -> u32
-    ensures { λ r. ⌜ r ≡ roomRefusal (now (f .entry)) n ⌝ }
+// 8, or 0.
+fn room_refusal(f: &[u8], table: &[u32]) -> u32
+    ensures { λ r. ⌜ r ≡ roomRefusal (now (f .entry)) (lent (now (table .entry))) ⌝ }
 {
-    if n < (record_count(f) as usize) * WIDTH {
+    if table.len() < (record_count(bays_of(f)) as usize) * WIDTH {
         return 8;
     }
     0
 }
 
-// The whole table of a floor whose verdict is clear or not.
-fn fill(f: &[u8], table: &mut [u32], stands: bool)
-    requires { ⌜ Roomy (now f) (now table) stands ⌝ }
-    ensures { λ _. ⌜ now (table .exit) ≡ fresh (now (f .entry)) (now (table .entry)) ⌝ }
+// A number that was given stands; else the room is tried.
+fn then_room(f: &[u8], table: &[u32], number: u32) -> u32
+    ensures { λ r. ⌜ r ≡ cond (eqb number 0) (roomRefusal (now (f .entry)) (lent (now (table .entry)))) number ⌝ }
 {
-    if stands {
-        write_named(f, table, 3, 0);
-    } else {
-        blank(table, record_count(f));
-    }
-}
-
-fn open_refusal(f: &[u8], n: usize) -> u32
-    ensures { λ r. ⌜ r ≡ openRefusal (now (f .entry)) n ⌝ }
-{
-    let number = refusal::refusal(f);
     if number != 0 {
         return number;
     }
-    room_refusal(f, n)
+    room_refusal(f, table)
+}
+
+// The whole table of a floor whose verdict is clear or not.
+fn fill(f: &[u8], table: &mut [u32], slab: Slab, alphas: &[[u64; 13]; 2], stands: bool)
+    requires { ⌜ Judging (now f) (now table) slab (now alphas) stands ⌝ }
+    ensures { λ _. ⌜ now (table .exit) ≡ fresh (now (f .entry)) (now (table .entry)) ⌝ }
+{
+    if stands {
+        write_named(f, table, slab, alphas, LOADS, 0);
+    } else {
+        blank(table, record_count(slab.bays));
+    }
+}
+
+// The table after a change of this kind and index to what is now floor f; `before` and `after` say whether the two verdicts are clear.
+fn rewrite(
+    f: &[u8],
+    table: &mut [u32],
+    slab: Slab,
+    alphas: &[[u64; 13]; 2],
+    before: bool,
+    after: bool,
+    kind: u32,
+    index: u32,
+)
+    requires { ⌜ Rewriting (now f) (now table) slab (now alphas) after kind index ⌝ }
+    ensures { λ _. ⌜ now (table .exit) ≡ rewritten before (now (f .entry)) kind index (now (table .entry)) ⌝ }
+{
+    if both(before, after) {
+        write_named(f, table, slab, alphas, kind, index);
+    } else {
+        fill(f, table, slab, alphas, after);
+    }
+}
+
+// The verdict of floor f, and its table, from spans and α that are worked out once: the whole, or where the verdict was clear before and is now, what a change of this kind and index names.
+fn settle(f: &[u8], table: &mut [u32], before: bool, kind: u32, index: u32) -> u32
+    requires { ⌜ Settling (now f) (now table) kind index ⌝ }
+    ensures { λ r. ⌜ (r ≡ verdict (now (f .entry))) × (now (table .exit) ≡ rewritten before (now (f .entry)) kind index (now (table .entry))) ⌝ }
+{
+    let slab = slab_of(f);
+    let s = spans(f, slab.bays);
+    let a = alphas(f, slab, &s);
+    let v = broken(f, slab, &s, &a);
+    rewrite(f, table, slab, &a, before, v == 0, kind, index);
+    v
 }
 
 // Opens a floor: its refusal, or its verdict and its table.
 pub fn open(f: &[u8], table: &mut [u32]) -> Answer
-    ensures { λ r. ⌜ Opened (now (f .entry)) (now (table .entry)) r (now (table .exit)) ⌝ }
+    ensures { λ r. ⌜ Opened (now (f .entry)) (lent (now (table .entry))) r (lent (now (table .exit))) ⌝ }
 {
-    let number = open_refusal(f, table.len());
+    let number = then_room(f, table, refusal::refusal(f));
     if number != 0 {
-        return Answer {
-            refusal: number,
-            value: 255,
-        };
+        return refused(number);
     }
-    let broken = verdict(f);
-    fill(f, table, broken == 0);
-    Answer {
-        refusal: 0,
-        value: broken,
-    }
-}
-
-fn change_number(f: &[u8], n: usize, c: &[u8]) -> u32
-    ensures { λ r. ⌜ r ≡ changeNumber (now (f .entry)) n (now (c .entry)) ⌝ }
-{
-    let number = changes::judge(f, c);
-    if number != 0 {
-        return number;
-    }
-    room_refusal(f, n)
-}
-
-// The table after a change of this kind and index to what is now floor f; `before` and `after` say whether the two verdicts are clear.
-fn rewrite(f: &[u8], table: &mut [u32], before: bool, after: bool, kind: u32, index: u32)
-    requires { ⌜ Rewriting (now f) (now table) after kind index ⌝ }
-    ensures { λ _. ⌜ now (table .exit) ≡ rewritten before (now (f .entry)) kind index (now (table .entry)) ⌝ }
-{
-    if both(before, after) {
-        write_named(f, table, kind, index);
-    } else {
-        fill(f, table, after);
-    }
+    success(settle(f, table, false, LOADS, 0))
 }
 
 // A change: judged whole before one byte is stored, then floor and table together.
 pub fn change(f: &mut [u8], table: &mut [u32], c: &[u8]) -> Answer
-    ensures { λ r. ⌜ Changed (now (f .entry)) (now (table .entry)) (now (c .entry)) r (now (f .exit)) (now (table .exit)) ⌝ }
+    ensures { λ r. ⌜ Changed (now (f .entry)) (lent (now (table .entry))) (now (c .entry)) r (now (f .exit)) (lent (now (table .exit))) ⌝ }
 {
-    let number = change_number(f, table.len(), c);
+    let ruling = changes::judge(f, c);
+    let number = then_room(f, table, ruling.number);
     if number != 0 {
-        return Answer {
-            refusal: number,
-            value: 255,
-        };
+        return refused(number);
     }
     let before = verdict(f);
-    changes::store(f, c);
-    let after = verdict(f);
-    rewrite(
-        f,
-        table,
-        before == 0,
-        after == 0,
-        u16_at(c, 0),
-        u16_at(c, 2),
-    );
-    Answer {
-        refusal: 0,
-        value: after,
-    }
+    changes::store(f, ruling.place, c);
+    success(settle(f, table, before == 0, u16_at(c, 0), u16_at(c, 2)))
 }

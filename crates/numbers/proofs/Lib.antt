@@ -6,3 +6,4 @@ pub mod Extremes
 pub mod Records
 pub mod Written
 pub mod Cases
+pub mod Chains

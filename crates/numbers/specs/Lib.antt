@@ -4,3 +4,4 @@ pub mod Tests
 pub mod Extremes
 pub mod Records
 pub mod Figures
+pub mod Chains

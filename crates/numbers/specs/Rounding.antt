@@ -1,6 +1,6 @@
 -- Rounding, over the divisor.
 -- Assumes nothing.
-use Prim.Native.Nat.{ℕ, _+_, _-_, _*_, _/_, _≤_, _<_}
+use Prim.Native.Nat.{ℕ, _+_, _-_, _*_, _/_, _≤_, _<_, _^_}
 use lib.IntN.{ℤ, pos, negsuc}
 
 -- q is n/d rounded down: its multiple of d is reached, and the next one is not
@@ -11,6 +11,11 @@ pub record Down (n d q : ℕ) : Type 0 where
 -- n/d, rounded up
 abbrev pub up : ℕ → ℕ → ℕ
 up n d = (n + (d - 1)) / d
+
+-- which can be worked out in 64 bits
+pub record Quotient (n d : ℕ) : Type 0 where
+  pub positive : 0 < d
+  pub room : n + d < 2 ^ 64
 
 -- k + floor((p − q)/d), the floor toward minus infinity
 abbrev pub plusFloor : ℕ → ℕ → ℕ → ℕ → ℕ

@@ -3,6 +3,7 @@
 use mathlib.Core.Bool.{Bool, true, false, not, cond, _&&_, _||_}
 use mathlib.Core.Path.{_≡_}
 use Prim.Native.Nat.{ℕ, zero, suc, _<_}
+use lib.Dec.{leb}
 
 -- the answer of a loop that stops with w at the first number below n whose test answers w, and else ends with the other answer
 abbrev pub joined : Bool → Bool → Bool → Bool
@@ -30,6 +31,10 @@ Some n P = (k : ℕ) × (k < n) × P k
 -- two tests agree
 abbrev pub same : Bool → Bool → Bool
 same a b = cond a b (not b)
+
+-- least..most
+abbrev pub within : ℕ → ℕ → ℕ → Bool
+within least most x = leb least x && leb x most
 
 -- a test says P: it passes exactly where P holds
 pub record Says (b : Bool) (P : Type 0) : Type 0 where

@@ -12,7 +12,17 @@ unfoldable pub le32 : List ℕ → ℕ → ℕ
 le32 f at =
     getD f at 0 + 256 * getD f (at + 1) 0 + 65536 * getD f (at + 2) 0 + 16777216 * getD f (at + 3) 0
 
--- the fields of record q: its kind, its index, and part 1, 2 or 3, which 01 calls a, b, c
+-- the parts of a record after its kind and index, which 01 calls a, b, c
+abbrev pub partA : ℕ
+partA = 1
+
+abbrev pub partB : ℕ
+partB = 2
+
+abbrev pub partC : ℕ
+partC = 3
+
+-- the fields of record q: its kind, its index, and its parts
 abbrev pub kindAt : List ℕ → ℕ → ℕ
 kindAt f q = le16 f (q * 16)
 

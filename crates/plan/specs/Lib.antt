@@ -1,3 +1,4 @@
 pub mod Fields
 pub mod Ways
 pub mod Plan
+pub mod Asked

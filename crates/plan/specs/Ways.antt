@@ -1,6 +1,7 @@
 -- The two directions and the two ends. "An x line runs along x; x line 0 is south, y line 0 is west."
 -- Assumes nothing.
 use Prim.Native.Nat.{ℕ}
+use Rattle.plan.specs.Fields.{partA, partB}
 use Rattle.plan.specs.declared.ways.Way.{Way}
 use Rattle.plan.specs.declared.ways.Way.the-variants.{X, Y}
 use Rattle.plan.specs.declared.ways.End.{End}
@@ -24,7 +25,7 @@ lineKind d = pick d 7 8
 
 -- sizes along x stand in a, along y in b: cx and cy, and an offset's two sizes
 abbrev pub partOf : Way → ℕ
-partOf d = pick d 1 2
+partOf d = pick d partA partB
 
 -- "Sides = west + 4·east + 16·south + 64·north"
 abbrev pub sideUnit : Way → End → ℕ

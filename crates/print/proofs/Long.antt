@@ -13,7 +13,8 @@ use Rattle.plan.specs.declared.ways.Way.the-variants.{X, Y}
 use Rattle.plan.specs.Fields.{le16, le32}
 use Rattle.plan.specs.Plan.{bays}
 use Rattle.plan.proofs.Reading.{bays-most}
-use Rattle.floor.specs.Refusal.{unless, lengthOk, firstOk, countOk, refusal}
+use Rattle.numbers.specs.Chains.{tried}
+use Rattle.floor.specs.Refusal.{lengthOk, firstOk, countOk, floorChecks, refusal}
 
 too-many : (f : List ℕ) → 3568 < length f → countOk f ≡ false
 unfolding countOk
@@ -44,6 +45,6 @@ module _ (f g : List ℕ) (alike : (n : ℕ) → n < 16 → getD f n 0 ≡ getD 
       )
 
   pub long-alike : 3568 < length f → 3568 < length g → length f % 16 ≡ length g % 16 → refusal f ≡ refusal g
-  unfolding refusal lengthOk unless
+  unfolding refusal floorChecks lengthOk tried
   long-alike hf hg e =
       rw (e, same-first, too-many f hf, too-many g hg, le-leb 224 (length f) (omega arith), le-leb 224 (length g) (omega arith))

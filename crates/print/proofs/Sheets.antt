@@ -10,12 +10,14 @@ use Rattle.numbers.proofs.Tests.{says-eq, by-test}
 use Rattle.sheets.specs.Text.{line, lines}
 use Rattle.sheets.specs.Wrote.{Wrote}
 use Rattle.sheets.proofs.Writing.{wrote-as, wrote-one}
-use Rattle.verdict.specs.declared.Answer.{Answer}
-use Rattle.verdict.specs.Limits.{verdict}
+use Rattle.answers.specs.declared.Answer.{Answer}
+use Rattle.limits.specs.Limits.{verdict}
 use Rattle.tables.specs.Width.{recordWidth}
 use Rattle.tables.specs.Places.{recordCount}
+use Rattle.moments.specs.Lent.{Lent, lent}
 use Rattle.moments.specs.Tables.{fresh}
-use Rattle.moments.specs.Opening.{openRefusal, answered, Opened}
+use Rattle.moments.specs.Opening.{openRefusal, Opened}
+use Rattle.answers.specs.Answers.{answered}
 use Rattle.print.specs.Sheet.{answerOf, firstLine, recordLines, sheetText, Began}
 use Rattle.print.specs.declared.Start.{Start}
 
@@ -24,7 +26,7 @@ not-refused : (number v : ℕ) → answered number v .value ≡ 0 → number ≡
 not-refused number v =
     by-test (λ (a : Answer). a .value ≡ 0 → number ≡ 0) (says-eq number 0) (λ z _. z) (λ _ e. absurd (omega arith))
 
-module _ {f t : List ℕ} {a : Answer} {u old mid : List ℕ} {m : ℕ} (o : Opened f t a u)
+module _ {f t : List ℕ} {a : Answer} {u old mid : List ℕ} {m : ℕ} (o : Opened f (lent t) a (lent u))
     (w : Wrote old 0 (line (a .refusal ∷ a .value ∷ [])) mid m) where
   first : Wrote old 0 (firstLine f t) mid m
   first = wrote-as (rw (o .answer)) w
@@ -40,7 +42,7 @@ module _ {f t : List ℕ} {a : Answer} {u old mid : List ℕ} {m : ℕ} (o : Ope
   }
 
   filled : a .value ≡ 0 → u ≡ fresh f t
-  filled z = o .table ∙ rw (not-refused (openRefusal f (length t)) (verdict f) (sym value-of ∙ z))
+  filled z = ap (λ (x : Lent). x .table) (o .lent ∙ rw (not-refused (openRefusal f (lent t)) (verdict f) (sym value-of ∙ z)))
 
   pub goes-on : {n : ℕ} → a .value ≡ 0 → n ≡ recordCount f → n ≤ 312 → Began f t old (record { end = m; records = n }) u mid
   goes-on z e few = record {

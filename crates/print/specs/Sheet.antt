@@ -9,17 +9,19 @@ use lib.Dec.{eqb}
 use lib.ListN.{length}
 use Rattle.sheets.specs.Text.{line, lines}
 use Rattle.sheets.specs.Wrote.{Wrote}
-use Rattle.verdict.specs.declared.Answer.{Answer}
-use Rattle.verdict.specs.Limits.{verdict}
+use Rattle.answers.specs.declared.Answer.{Answer}
+use Rattle.limits.specs.Limits.{verdict}
 use Rattle.tables.specs.Width.{recordWidth}
 use Rattle.tables.specs.Places.{recordCount}
+use Rattle.moments.specs.Lent.{lent}
 use Rattle.moments.specs.Tables.{fresh}
-use Rattle.moments.specs.Opening.{openRefusal, answered}
+use Rattle.moments.specs.Opening.{openRefusal}
+use Rattle.answers.specs.Answers.{answered}
 use Rattle.print.specs.declared.Start.{Start}
 
 -- the answer of opening, with the slice t as its table
 abbrev pub answerOf : List ℕ → List ℕ → Answer
-answerOf f t = answered (openRefusal f (length t)) (verdict f)
+answerOf f t = answered (openRefusal f (lent t)) (verdict f)
 
 abbrev pub firstLine : List ℕ → List ℕ → List ℕ
 firstLine f t = line (answerOf f t .refusal ∷ answerOf f t .value ∷ [])

@@ -6,6 +6,7 @@ ghost use Rattle.sheets.specs.Wrote.{Line};
 ghost use Rattle.print.specs.Sheet.{sheetText, Began, Space};
 use libc::STDIN_FILENO;
 use libc::STDOUT_FILENO;
+use plan::read::bays_of;
 use sheets::pair;
 use sheets::pieces::write_rows;
 use tables::places::record_count;
@@ -39,7 +40,7 @@ fn begin(floor: &[u8], table: &mut [u32], out: &mut [u8]) -> Start
     }
     Start {
         end: end,
-        records: record_count(floor),
+        records: record_count(bays_of(floor)),
     }
 }
 

@@ -8,7 +8,7 @@ use native.Mathlib.Omega.{arith}
 use lib.Dec.{eqb}
 use borrow.Author.Tests.{le-leb, lt-leb, ne-eqb}
 use Rattle.records.specs.Kinds.{byKind, changeable}
-use Rattle.records.specs.Ranges.{within}
+use Rattle.numbers.specs.Tests.{within}
 
 module _ (P : ℕ → Type 0) (p0 : P 0) (p1 : P 1) (p2 : P 2) (p3 : P 3) (p4 : P 4) (p5 : P 5) (p6 : P 6) (p7 : P 7) (p8 : P 8) (p9 : P 9)
     (past : (k : ℕ) → 10 ≤ k → P k) where

@@ -10,10 +10,10 @@ use mathlib.Core.Path.{_≡_, refl, sym}
 use native.Mathlib.Nat.{div-div-eq-div-mul}
 use native.Mathlib.Omega.{arith}
 use lib.Dec.{eqb}
-use Rattle.numbers.specs.Tests.{Says}
+use Rattle.numbers.specs.Tests.{Says, within}
 use Rattle.numbers.proofs.Tests.{says-le, says-eq, says-and, says-and3, says-or, says-as, says-always, says-never, fails}
 use Rattle.records.specs.Kinds.{byKind, unlistedZero, changeable}
-use Rattle.records.specs.Ranges.{within, sizesOk, materialsOk, loadsOk, columnOk, sidesOk, columnsOk, spanOk, beamOk, offsetOk, valuesOk}
+use Rattle.records.specs.Ranges.{sizesOk, materialsOk, loadsOk, columnOk, sidesOk, columnsOk, spanOk, beamOk, offsetOk, valuesOk}
 use Rattle.records.specs.Meaning.{In, Sizes, Materials, Loads, Column, Sides, Columns, Span, Beam, Offset, InRange, Zero, Changeable}
 use Rattle.records.proofs.ByKind.{changeable-test}
 

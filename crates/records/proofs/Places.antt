@@ -8,7 +8,8 @@ use native.Mathlib.Decide.{decLt}
 use native.Mathlib.Nat.{not-suc-le-zero, le-of-suc-le-suc, eq-or-lt-of-le}
 use native.Mathlib.Omega.{arith}
 use Rattle.numbers.proofs.Bounded.{_⊕_, _⊗_, #}
-use Rattle.records.specs.Kinds.{countOf, startOf, total, Few}
+use Rattle.records.specs.Kinds.{countOf, startOf, total}
+use Rattle.records.specs.Asked.{Small}
 use Rattle.records.proofs.ByKind.{by-kind, past-kinds}
 
 module _ (nx ny : ℕ) where
@@ -59,14 +60,14 @@ module _ (nx ny : ℕ) where
   unfolding total startOf countOf
   total-is = omega arith
 
-  pub corners-most : Few nx ny → (nx + 1) * (ny + 1) ≤ 169
-  corners-most few = (few .x ⊕ # 1) ⊗ (few .y ⊕ # 1)
+  pub corners-most : Small nx ny → (nx + 1) * (ny + 1) ≤ 169
+  corners-most small = (small .x ⊕ # 1) ⊗ (small .y ⊕ # 1)
 
-  pub count-most : Few nx ny → (k : ℕ) → countOf nx ny k ≤ 169
+  pub count-most : Small nx ny → (k : ℕ) → countOf nx ny k ≤ 169
   unfolding countOf
-  count-most few =
+  count-most small =
       by-kind (λ k. countOf nx ny k ≤ 169) (omega arith) (omega arith) (omega arith) (omega arith) (omega arith) (omega arith) (omega arith)
-      (omega arith) (omega arith) (corners-most few) (λ k h. omega (arith, count-past k h))
+      (omega arith) (omega arith) (corners-most small) (λ k h. omega (arith, count-past k h))
 
-  pub total-most : Few nx ny → total nx ny ≤ 223
-  total-most few = rw total-is (omega (arith, corners-most few))
+  pub total-most : Small nx ny → total nx ny ≤ 223
+  total-most small = rw total-is (omega (arith, corners-most small))

@@ -1,8 +1,24 @@
 -- "The floor file", the table by kind: how many records of each, where they start, which fields are listed, which kinds can be changed.
 -- Assumes nothing.
-use Prim.Native.Nat.{ℕ, zero, suc, _+_, _*_, _≤_}
+use Prim.Native.Nat.{ℕ, zero, suc, _+_, _*_}
 use mathlib.Core.Bool.{Bool, true, false, cond, _&&_}
 use lib.Dec.{eqb}
+
+-- the kinds by name; 5 to 8 are those of a direction (crate plan)
+abbrev pub sizeKind : ℕ
+sizeKind = 1
+
+abbrev pub materialKind : ℕ
+materialKind = 2
+
+abbrev pub loadKind : ℕ
+loadKind = 3
+
+abbrev pub columnKind : ℕ
+columnKind = 4
+
+abbrev pub offsetKind : ℕ
+offsetKind = 9
 
 -- what kind k, 1 to 9, has of nine things; any other number has the last
 abbrev pub byKind {ℓ} : {A : Type ℓ} → ℕ → A → A → A → A → A → A → A → A → A → A → A
@@ -32,14 +48,3 @@ unlistedZero k b c =
 -- refusal 9: a change is of kind 3 or 5..9
 unfoldable pub changeable : ℕ → Bool
 changeable k = byKind k false false true false true true true true true false
-
--- bays as refusal 2 leaves them, which keeps every count and place small
-pub record Few (nx ny : ℕ) : Type 0 where
-  pub x : nx ≤ 12
-  pub y : ny ≤ 12
-
--- with a kind of the table
-pub record Kinded (nx ny k : ℕ) : Type 0 where
-  pub x : nx ≤ 12
-  pub y : ny ≤ 12
-  pub kind : k ≤ 9

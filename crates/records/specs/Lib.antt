@@ -1,3 +1,4 @@
 pub mod Kinds
 pub mod Ranges
 pub mod Meaning
+pub mod Asked

@@ -3,11 +3,8 @@
 use Prim.Native.Nat.{ℕ, _%_, _/_}
 use mathlib.Core.Bool.{Bool, false, cond, _&&_, _||_}
 use lib.Dec.{leb, eqb}
+use Rattle.numbers.specs.Tests.{within}
 use Rattle.records.specs.Kinds.{byKind}
-
--- lo..hi
-abbrev pub within : ℕ → ℕ → ℕ → Bool
-within lo hi x = leb lo x && leb x hi
 
 -- 1 sizes: bays nx 1..12, bays ny 1..12, slab t 90..500
 unfoldable pub sizesOk : ℕ → ℕ → ℕ → Bool

@@ -1,10 +1,22 @@
 // Counts, places and listed fields of the records, by kind: what refusals 3, 4 and 9 ask.
 ghost use mathlib.Core.Path.{_≡_};
 ghost use Prim.Native.Nat.{_≤_};
-ghost use Rattle.records.specs.Kinds.{countOf, startOf, total, unlistedZero, changeable, Few, Kinded};
+ghost use Rattle.records.specs.Kinds.{countOf, startOf, total, unlistedZero, changeable};
+ghost use Rattle.records.specs.Asked.{Small, Kinded};
+
+// The kinds that have one record, and the offsets; the kinds of a direction are in crate plan.
+pub const SIZES: u32 = 1;
+
+pub const MATERIALS: u32 = 2;
+
+pub const LOADS: u32 = 3;
+
+pub const COLUMNS: u32 = 4;
+
+pub const OFFSETS: u32 = 9;
 
 pub fn count_of(nx: u32, ny: u32, k: u32) -> u32
-    requires { ⌜ Few nx ny ⌝ }
+    requires { ⌜ Small nx ny ⌝ }
     ensures { λ r. ⌜ (r ≡ countOf nx ny k) × (r ≤ 169) ⌝ }
 {
     match k {
@@ -40,7 +52,7 @@ pub fn start_of(nx: u32, ny: u32, k: u32) -> u32
 }
 
 pub fn total(nx: u32, ny: u32) -> u32
-    requires { ⌜ Few nx ny ⌝ }
+    requires { ⌜ Small nx ny ⌝ }
     ensures { λ r. ⌜ (r ≡ total nx ny) × (r ≤ 223) ⌝ }
 {
     6 + 2 * nx + 2 * ny + (nx + 1) * (ny + 1)

@@ -17,7 +17,8 @@ pub fn sizes_ok(nx: u32, ny: u32, t: u32) -> bool
     }
 }
 
-fn materials_ok(fc: u32, fy: u32) -> bool
+// Of the floor file and of a steel query.
+pub fn materials_ok(fc: u64, fy: u64) -> bool
     ensures { λ r. ⌜ r ≡ materialsOk fc fy ⌝ }
 {
     match fc {
@@ -114,7 +115,7 @@ pub fn values_ok(k: u32, a: u32, b: u32, c: u32) -> bool
 {
     match k {
         1 => sizes_ok(a, b, c),
-        2 => materials_ok(a, b),
+        2 => materials_ok(a as u64, b as u64),
         3 => loads_ok(a, b),
         4 => columns_ok(a, b, c),
         5 => span_ok(a),

@@ -18,19 +18,21 @@ use Rattle.plan.specs.declared.ways.End.{End}
 use Rattle.plan.specs.declared.ways.End.the-variants.{Low, High}
 use Rattle.plan.specs.Ways.{across, spanKind}
 use Rattle.plan.specs.Plan.{bays, thickness, span}
+use Rattle.plan.specs.Plan.{baysOf}
 use Rattle.plan.proofs.Reading.{absent}
 use Rattle.plan.proofs.Directions.{span-count}
 use Rattle.floor.proofs.Fair.{fair}
-use Rattle.rules.specs.Sizes.{Beside}
-use Rattle.rules.specs.Lines.{transverseSpan}
+use Rattle.stiffness.specs.Asked.{Beside}
+use Rattle.stiffness.specs.Lines.{transverseSpan}
 use Rattle.lines.specs.Lines.{outer, below, above}
-use Rattle.lines.specs.Held.{OnLine}
+use Rattle.lines.specs.Slabs.{slabOf}
+use Rattle.lines.specs.Asked.{OnLine}
 use Rattle.lines.proofs.Floors.{beside-of, line-of, beam-of}
-use Rattle.verdict.specs.Meaning.{Few, Slender}
-use Rattle.verdict.proofs.Meaning.{clear}
+use Rattle.limits.specs.Meaning.{Few, Slender}
+use Rattle.limits.proofs.Meaning.{clear}
 use Rattle.spans.specs.declared.view.EndView.{EndView}
-use Rattle.spans.specs.Views.{slabView, lineView, endLine, outerEnd, innerEnd, lowEnd, highEnd, viewOf}
-use Rattle.spans.specs.Workable.{WorkableEnd, Workable, ClearSpan}
+use Rattle.spans.specs.Views.{lineView, endLine, outerEnd, innerEnd, lowEnd, highEnd, viewOf}
+use Rattle.spans.specs.Asked.{WorkableEnd, Workable, ClearSpan}
 use Rattle.spans.specs.Meaning.{OneOuter}
 
 -- of two spans, neither exceeds twice the other
@@ -81,7 +83,7 @@ module _ {f : List ℕ} {d : Way} {l s : ℕ} (c : ClearSpan f d l s) where
 
   outer-beam : (e : End) → WorkableEnd (outerEnd f d e) (thickness f)
   unfolding outerEnd
-  outer-beam e = beam-of f (c .accepted) (across d) (endLine f d e)
+  outer-beam e = beam-of f (c .accepted) (across d) (endLine (baysOf f) d e)
 
   -- without a beam
   no-beam : WorkableEnd innerEnd (thickness f)
@@ -95,7 +97,7 @@ module _ {f : List ℕ} {d : Way} {l s : ℕ} (c : ClearSpan f d l s) where
       }
 
   pub workable : Workable (viewOf f d l s)
-  unfolding viewOf slabView lineView lowEnd highEnd
+  unfolding viewOf slabOf lineView lowEnd highEnd
   workable =
       let numbers = fair f (c .accepted) in
       record {

@@ -1,3 +1,4 @@
+pub mod AtHand
 pub mod Worked
 pub mod Ends
 pub mod Clear

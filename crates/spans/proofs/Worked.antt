@@ -1,23 +1,22 @@
 -- What a span's formulas ask, and what they come to keep: each range is that of its formula, in the ranges of what it is worked out of.
 --     loaded, stiffened, proportioned    of a span, where its line's numbers are at hand
---     worked, worked-end                 what its own numbers keep, with the beam across an end
+--     worked                             what its own numbers keep
 --     work-is                            what is worked out of a span, formula by formula, are its numbers
 -- Assumes nothing.
 use Prim.Native.Nat.{ℕ, _≤_}
 use mathlib.Core.Path.{_≡_, refl, sym, subst}
-use Rattle.rules.proofs.Widths.{transverse-in, frame-in, strip-most}
-use Rattle.rules.proofs.Stiffness.{alpha-most}
+use Rattle.stiffness.proofs.Widths.{transverse-in, frame-in, strip-most}
+use Rattle.stiffness.proofs.Stiffness.{alpha-most}
 use Rattle.strips.specs.Moments.{clearLength, staticMoment}
-use Rattle.strips.specs.MomentRanges.{Loaded, Stiffened, Proportioned}
+use Rattle.strips.specs.Asked.{Loaded, Stiffened, Proportioned}
 use Rattle.strips.specs.Ratios.{stiffnessRatio, spanRatio}
 use Rattle.strips.proofs.Moments.{clear-most, moment-most}
 use Rattle.strips.proofs.Ratios.{stiffness-most, ratio-in}
-use Rattle.spans.specs.declared.view.EndView.{EndView}
 use Rattle.spans.specs.declared.view.View.{View}
 use Rattle.spans.specs.declared.work.LineWork.{LineWork}
 use Rattle.spans.specs.declared.work.SpanWork.{SpanWork}
-use Rattle.spans.specs.Works.{stripOf, lineWork, spanWork}
-use Rattle.spans.specs.Workable.{WorkableEnd, Workable, WorkableSpan, Worked, WorkedEnd}
+use Rattle.spans.specs.Works.{alphaOf, stripOf, lineWork, spanWork}
+use Rattle.spans.specs.Asked.{Workable, WorkableSpan, Worked}
 
 module _ {v : View} {w : LineWork} (h : WorkableSpan v w) where
   pub loaded : {ln : ℕ} → ln ≤ 12000 → Loaded (v .slab .dead) (v .slab .live) (w .width) ln
@@ -50,7 +49,7 @@ module _ {v : View} {w : LineWork} (h : WorkableSpan v w) where
       }
 
 module _ {v : View} (h : Workable v) where
-  abbrev on-line : WorkableSpan v (lineWork (v .line) (v .slab .t))
+  abbrev on-line : WorkableSpan v (lineWork (v .line) (alphaOf (v .line) (v .slab .t)))
   on-line = record { view = h; line = refl }
 
   pub worked : Worked (spanWork v)
@@ -70,10 +69,6 @@ module _ {v : View} (h : Workable v) where
         slab-most = h .line .beam .slab-most;
       }
 
-  pub worked-end : {e : EndView} → WorkableEnd e (v .slab .t) → WorkedEnd (spanWork v) e
-  unfolding spanWork
-  worked-end beam = record { span = worked; beam = beam }
-
 -- of a span, with Mo, A, R and wc
 abbrev pub workOf : View → LineWork → ℕ → ℕ → ℕ → ℕ → SpanWork
 workOf v w moment a r strip =
@@ -85,7 +80,6 @@ workOf v w moment a r strip =
       width = w .width;
       l2 = w .l2;
       t = v .slab .t;
-      layout = v .slab .layout;
     }
 
 pub work-is : {v : View} {w : LineWork} {ln moment a r strip : ℕ} → WorkableSpan v w

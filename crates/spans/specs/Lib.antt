@@ -1,5 +1,5 @@
 pub mod Views
 pub mod Works
-pub mod Sixteen
-pub mod Workable
+pub mod Record
+pub mod Asked
 pub mod Meaning

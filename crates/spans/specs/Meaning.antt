@@ -6,10 +6,11 @@ use mathlib.Core.Bool.{Bool, false, cond, _&&_}
 use mathlib.Core.List.{List, [], _∷_}
 use mathlib.Core.Path.{_≡_}
 use lib.Dec.{eqb}
+use Rattle.layouts.specs.declared.Layout.{Layout}
 use Rattle.strips.specs.declared.strip.Strips.{Strips}
 use Rattle.spans.specs.declared.view.EndView.{EndView}
 use Rattle.spans.specs.declared.work.SpanWork.{SpanWork}
-use Rattle.spans.specs.Sixteen.{endTotal, betweenTotal}
+use Rattle.spans.specs.Record.{percentsOf, totalAt}
 
 -- a section, shared out: nothing is lost, and the largest total is 75 percent of the largest moment
 pub record Shared (s : Strips) : Type 0 where
@@ -26,9 +27,9 @@ abbrev pub OneOuter : EndView → EndView → Type 0
 OneOuter low high = (low .outer && high .outer) ≡ false
 
 -- "Negatives plus twice the positive make 200·Mo, but 201·Mo in an unrestrained end span"
-abbrev pub Balanced : SpanWork → EndView → EndView → Type 0
-Balanced w low high =
-    endTotal w low high + endTotal w high low + 2 * betweenTotal w low high
+abbrev pub Balanced : Layout → SpanWork → EndView → EndView → Type 0
+Balanced layout w low high =
+    totalAt w (percentsOf layout low high .low) + totalAt w (percentsOf layout low high .high) + 2 * totalAt w (percentsOf layout low high .between)
     ≡ cond (unrestrained low) 201 (cond (unrestrained high) 201 200) * w .moment
 
 -- "sixteen 32-bit numbers"

@@ -1,7 +1,7 @@
 -- "Moments", of a span's view: the numbers of its line, its static moment and the ratios.
 -- Assumes nothing.
 use Prim.Native.Nat.{ℕ}
-use Rattle.rules.specs.Lines.{frameWidth, alpha, transverseSpan, columnStripWidth}
+use Rattle.stiffness.specs.Lines.{frameWidth, alpha, transverseSpan, columnStripWidth}
 use Rattle.strips.specs.Moments.{clearLength, staticMoment}
 use Rattle.strips.specs.Ratios.{stiffnessRatio, spanRatio}
 use Rattle.spans.specs.declared.view.LineView.{LineView}
@@ -21,8 +21,9 @@ l2Of line = transverseSpan (line .outer) (line .below) (line .above)
 abbrev pub alphaOf : LineView → ℕ → ℕ
 alphaOf line t = alpha (line .outer) (line .width) (line .depth) (widthOf line) t
 
+-- with its α
 unfoldable pub lineWork : LineView → ℕ → LineWork
-lineWork line t = record { width = widthOf line; l2 = l2Of line; alpha = alphaOf line t }
+lineWork line alpha = record { width = widthOf line; l2 = l2Of line; alpha = alpha }
 
 -- Mo
 abbrev pub momentOf : View → ℕ
@@ -50,5 +51,4 @@ spanWork v =
       width = widthOf (v .line);
       l2 = l2Of (v .line);
       t = v .slab .t;
-      layout = v .slab .layout;
     }

@@ -1,15 +1,12 @@
 // What a line and a span of it come to before their sections are worked out.
 ghost use mathlib.Core.Path.{_≡_};
 ghost use Rattle.spans.specs.Works.{lineWork, spanWork};
-ghost use Rattle.spans.specs.Workable.{WorkableLine, WorkableSpan, Worked};
+ghost use Rattle.spans.specs.Asked.{Sides, WorkableSpan, Worked};
 use crate::view::LineView;
 use crate::view::View;
-use floor::layout::Layout;
-use rules::line::alpha;
-use rules::line::column_strip_width;
-use rules::line::frame_width;
-use rules::line::transverse_span;
-use rules::section::Section;
+use stiffness::line::column_strip_width;
+use stiffness::line::frame_width;
+use stiffness::line::transverse_span;
 use strips::span::clear_length;
 use strips::span::span_ratio;
 use strips::span::static_moment;
@@ -31,22 +28,19 @@ pub struct SpanWork {
     pub width: u64,
     pub l2: u64,
     pub t: u64,
-    pub layout: Layout,
 }
 
-pub fn line_work(line: LineView, t: u32) -> LineWork
-    requires { ⌜ WorkableLine line t ⌝ }
-    ensures { λ r. ⌜ r ≡ lineWork line t ⌝ }
+// Of a line whose α is at hand.
+pub fn line_work(line: LineView, alpha: u64) -> LineWork
+    requires { ⌜ Sides line ⌝ }
+    ensures { λ r. ⌜ r ≡ lineWork line alpha ⌝ }
 {
     let outer = line.outer;
     let below = line.below as u64;
     let above = line.above as u64;
     let across = line.across as u64;
-    let b = line.width as u64;
-    let h = line.depth as u64;
     let width = frame_width(outer, below, above, across);
     let l2 = transverse_span(outer, below, above);
-    let alpha = alpha(outer, Section::of(b, h), width, t as u64);
     LineWork { width, l2, alpha }
 }
 
@@ -60,7 +54,6 @@ pub fn span_work(v: View, w: LineWork) -> SpanWork
     let dead = slab.dead as u64;
     let live = slab.live as u64;
     let t = slab.t as u64;
-    let layout = slab.layout;
     let outer = line.outer;
     let below = line.below as u64;
     let above = line.above as u64;
@@ -82,6 +75,5 @@ pub fn span_work(v: View, w: LineWork) -> SpanWork
         width,
         l2,
         t,
-        layout,
     }
 }

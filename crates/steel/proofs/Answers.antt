@@ -12,16 +12,18 @@ use native.Mathlib.Decide.{ℕ-discrete}
 use native.Mathlib.Omega.{arith}
 use Rattle.numbers.specs.Least.{Least, least-one}
 use Rattle.numbers.proofs.Tests.{says-lt, by-test}
-use Rattle.verdict.specs.declared.Answer.{Answer}
-use Rattle.verdict.specs.Answers.{answer}
-use Rattle.verdict.proofs.Answers.{same-answer}
+use Rattle.answers.specs.declared.Answer.{Answer}
+use Rattle.answers.specs.Answers.{answer}
+use Rattle.answers.proofs.Answers.{same-answer}
+use Rattle.steel.specs.declared.query.Query.{Query}
 use Rattle.steel.specs.declared.search.Limits.{Limits}
+use Rattle.steel.specs.Asked.{Searchable}
 use Rattle.steel.specs.Answered.{Answered}
-use Rattle.steel.specs.Search.{Within, firstWithin, leastWithin, Searchable}
+use Rattle.steel.specs.Search.{Within, firstWithin, leastWithin}
 use Rattle.steel.specs.Steel.{SteelAnswer, steelOf}
-use Rattle.steel.proofs.Ranges.{says-in-range, strain-range}
+use Rattle.steel.proofs.Ranges.{says-in-range}
 use Rattle.steel.proofs.Within.{least-within, none-within}
-use Rattle.steel.proofs.Bounds.{meets-within, searchable}
+use Rattle.steel.proofs.Bounds.{fits-within, searchable}
 
 module _ {Ok : Type 0} {P : ℕ → Type 0} where
   outside : ¬ Ok → Answered Ok P (answer 11 0)
@@ -80,13 +82,10 @@ module _ {Ok : Type 0} {P : ℕ → Type 0} where
       (λ h. let w = least-within s (omega (arith, h)) in
       least k (record { holds = same _ .1 (w .holds); first = λ As p. w .first As (same As .0 p) }))
 
-module _ (M b t d fc fy : ℕ) where
-  pub steel-answer : SteelAnswer M b t d fc fy (steelOf M b t d fc fy)
+module _ (q : Query) where
+  pub steel-answer : SteelAnswer q (steelOf q)
   unfolding steelOf
-  steel-answer =
-      by-test (SteelAnswer M b t d fc fy) (says-in-range M b t d fc fy)
-      (λ r. answer-within (searchable r) (meets-within M t (strain-range r)) r)
-      outside
+  steel-answer = by-test (SteelAnswer q) (says-in-range q) (λ r. answer-within (searchable r) (fits-within r) r) outside
 
-  pub steel-answer-one : {a b′ : Answer} → SteelAnswer M b t d fc fy a → SteelAnswer M b t d fc fy b′ → a ≡ b′
+  pub steel-answer-one : {a b : Answer} → SteelAnswer q a → SteelAnswer q b → a ≡ b
   steel-answer-one = answered-one

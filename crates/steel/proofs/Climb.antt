@@ -10,9 +10,10 @@ use native.Mathlib.Omega.{arith}
 use borrow.Author.Tests.{le-leb, lt-ltb, le-ltb}
 use Rattle.numbers.specs.Rounding.{up}
 use Rattle.numbers.proofs.Rounded.{up-first}
-use Rattle.verdict.specs.Answers.{answer}
+use Rattle.answers.specs.Answers.{answer}
 use Rattle.steel.specs.declared.search.Limits.{Limits}
-use Rattle.steel.specs.Search.{carries, firstWithin, leastWithin, Searchable}
+use Rattle.steel.specs.Asked.{Searchable}
+use Rattle.steel.specs.Search.{carries, firstWithin, leastWithin}
 use Rattle.steel.proofs.First.{First, first-one}
 use Rattle.steel.proofs.Tangent.{carried, slope, by-tension, not-before}
 use Rattle.steel.proofs.Within.{left, is-first}

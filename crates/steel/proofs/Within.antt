@@ -7,7 +7,8 @@ use native.Mathlib.Omega.{arith}
 use Rattle.numbers.specs.Least.{Least}
 use Rattle.numbers.specs.Tests.{Says}
 use Rattle.steel.specs.declared.search.Limits.{Limits}
-use Rattle.steel.specs.Search.{Carries, Within, carries, firstWithin, Searchable}
+use Rattle.steel.specs.Asked.{Searchable}
+use Rattle.steel.specs.Search.{Carries, Within, carries, firstWithin}
 use Rattle.steel.proofs.Carrying.{says-carries}
 use Rattle.steel.proofs.First.{First, first-first}
 

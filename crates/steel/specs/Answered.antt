@@ -4,7 +4,7 @@ use Prim.Native.Nat.{ℕ}
 use mathlib.Core.Logic.{_↔_}
 use mathlib.Core.Path.{_≡_}
 use Rattle.numbers.specs.Least.{Least}
-use Rattle.verdict.specs.declared.Answer.{Answer}
+use Rattle.answers.specs.declared.Answer.{Answer}
 
 pub record Answered (Ok : Type 0) (P : ℕ → Type 0) (a : Answer) : Type 0 where
   -- 11: "steel query value out of range"

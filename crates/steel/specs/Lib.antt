@@ -3,4 +3,4 @@ pub mod Area
 pub mod Answered
 pub mod Search
 pub mod Steel
-pub mod Ranges
+pub mod Asked

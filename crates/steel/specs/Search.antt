@@ -1,13 +1,13 @@
 -- The least area over any limits. An edition of the code enters by the numbers of `Limits` alone: the moment's two, and the areas that its
 -- minimum and its strain limit come to.
 -- Assumes nothing.
-use Prim.Native.Nat.{ℕ, zero, suc, _-_, _*_, _≤_, _<_, _^_}
+use Prim.Native.Nat.{ℕ, zero, suc, _-_, _*_, _≤_}
 use mathlib.Core.Bool.{Bool, cond}
 use lib.Dec.{leb, ltb}
 use lib.IntN.{ℤ, pos, _-ℤ_, _*ℤ_}
 use lib.Signed.{_≤ℤ_}
-use Rattle.verdict.specs.declared.Answer.{Answer}
-use Rattle.verdict.specs.Answers.{answer}
+use Rattle.answers.specs.declared.Answer.{Answer}
+use Rattle.answers.specs.Answers.{answer}
 use Rattle.steel.specs.declared.search.Limits.{Limits}
 
 -- ---- what is asked of an area
@@ -37,13 +37,3 @@ firstWithin l = first (carries (l .fy) (l .block) (l .load)) (suc (l .most) - l 
 
 unfoldable pub leastWithin : Limits → Answer
 leastWithin l = cond (ltb (l .most) (firstWithin l)) (answer 12 0) (answer 0 (firstWithin l))
-
--- ---- what the search may rely on
-
--- up to the largest area each one lies left of the parabola's top, where the tangent still rises; and each product fits 64 bits
-pub record Searchable (l : Limits) : Type 0 where
-  pub rising : 20 * l .most * l .fy < l .block
-  pub grade : (0 < l .fy) × (l .fy ≤ 520)
-  pub room : l .block ≤ 5814000000
-  pub heaviest : l .load ≤ 2448000000000000000
-  pub short : l .most < 2 ^ 32

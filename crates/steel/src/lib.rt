@@ -1,25 +1,24 @@
 // Slab steel: the least whole area of a query.
 mod limits;
-mod query;
-mod rounding;
+pub mod query;
 mod search;
 
 ghost use mathlib.Core.Path.{_≡_};
 ghost use Rattle.steel.specs.Steel.{steelOf};
+use answers::Answer;
+use answers::refused_query;
 use limits::limits_of;
+use query::Query;
 use query::in_range;
 use search::least_within;
-use verdict::Answer;
 
-// The least whole As, in mm², for the moment m, in N·cm, on a width b of a slab of thickness t, at the depth d or, for 0, the default one.
-pub fn steel(m: u64, b: u64, t: u64, d: u64, fc: u64, fy: u64) -> Answer
-    ensures { λ r. ⌜ r ≡ steelOf m b t d fc fy ⌝ }
+// The least whole As, in mm².
+pub fn steel(q: Query) -> Answer
+    ensures { λ r. ⌜ r ≡ steelOf q ⌝ }
 {
-    if !in_range(m, b, t, d, fc, fy) {
-        return Answer {
-            refusal: 11,
-            value: 0,
-        };
+    if in_range(q) {
+        least_within(limits_of(q))
+    } else {
+        refused_query(11)
     }
-    least_within(limits_of(m, b, t, d, fc, fy))
 }

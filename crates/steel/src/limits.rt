@@ -1,11 +1,11 @@
 // The limits that a query sets to its area.
+use crate::query::Query;
 use crate::query::depth_of;
-use crate::rounding::rounded_up;
 use crate::search::Limits;
+use numbers::rounded_up;
 ghost use mathlib.Core.Path.{_≡_};
 ghost use Rattle.steel.specs.Area.{K};
 ghost use Rattle.steel.specs.Query.{InRange};
-ghost use Rattle.steel.specs.Ranges.{MinimumRange, StrainRange};
 ghost use Rattle.steel.specs.Steel.{minimumArea, strainArea, limitsOf};
 
 fn k_of(fc: u64) -> u64
@@ -21,10 +21,13 @@ fn k_of(fc: u64) -> u64
 }
 
 // The least As that reaches the minimum.
-fn minimum_area(b: u64, t: u64, fy: u64) -> u64
-    requires { ⌜ MinimumRange b t fy ⌝ }
-    ensures { λ r. ⌜ r ≡ minimumArea b t fy ⌝ }
+fn minimum_area(q: Query) -> u64
+    requires { ⌜ InRange q ⌝ }
+    ensures { λ r. ⌜ r ≡ minimumArea q ⌝ }
 {
+    let b = q.b;
+    let t = q.t;
+    let fy = q.fy;
     if fy == 280 {
         return rounded_up(2 * b * t, 1000);
     }
@@ -32,25 +35,30 @@ fn minimum_area(b: u64, t: u64, fy: u64) -> u64
 }
 
 // The largest As within the strain limit.
-fn strain_area(b: u64, d: u64, fc: u64, fy: u64) -> u64
-    requires { ⌜ StrainRange b d fc fy ⌝ }
-    ensures { λ r. ⌜ r ≡ strainArea b d fc fy ⌝ }
+fn strain_area(q: Query) -> u64
+    requires { ⌜ InRange q ⌝ }
+    ensures { λ r. ⌜ r ≡ strainArea q ⌝ }
 {
+    let b = q.b;
+    let d = depth_of(q);
+    let fc = q.fc;
+    let fy = q.fy;
     51 * k_of(fc) * fc * b * d / (224000 * fy)
 }
 
-pub fn limits_of(m: u64, b: u64, t: u64, d: u64, fc: u64, fy: u64) -> Limits
-    requires { ⌜ InRange m b t d fc fy ⌝ }
-    ensures { λ r. ⌜ r ≡ limitsOf m b t d fc fy ⌝ }
+pub fn limits_of(q: Query) -> Limits
+    requires { ⌜ InRange q ⌝ }
+    ensures { λ r. ⌜ r ≡ limitsOf q ⌝ }
 {
-    let depth = depth_of(d, t);
-    let least = minimum_area(b, t, fy);
-    let most = strain_area(b, depth, fc, fy);
+    let m = q.m;
+    let b = q.b;
+    let d = depth_of(q);
+    let fc = q.fc;
     Limits {
-        fy: fy,
-        block: 17 * fc * b * depth,
+        fy: q.fy,
+        block: 17 * fc * b * d,
         load: 1700 * fc * b * m,
-        least: least,
-        most: most,
+        least: minimum_area(q),
+        most: strain_area(q),
     }
 }

@@ -1,14 +1,19 @@
 // What a query may hold, and the depth that it stands for.
 use numbers::both;
 use numbers::larger;
+use numbers::within;
+use records::ranges::materials_ok;
 ghost use mathlib.Core.Path.{_≡_};
-ghost use Prim.Native.Nat.{_≤_};
-ghost use Rattle.steel.specs.Query.{within, depthListed, gradeListed, inRange, defaultDepth, depthOf};
+ghost use Rattle.steel.specs.Query.{InRange, depthListed, inRange, depthOf};
 
-fn within(least: u64, most: u64, x: u64) -> bool
-    ensures { λ r. ⌜ r ≡ within least most x ⌝ }
-{
-    both(least <= x, x <= most)
+// The moment m, in N·cm, on a width b of a slab of thickness t, at the depth d or, for 0, the default one.
+pub struct Query {
+    pub m: u64,
+    pub b: u64,
+    pub t: u64,
+    pub d: u64,
+    pub fc: u64,
+    pub fy: u64,
 }
 
 // 50..t − 25, or 0. A slab thinner than 25 counts as 25 here: no depth from 50 on lies in it.
@@ -19,39 +24,18 @@ fn depth_listed(d: u64, t: u64) -> bool
     inside || d == 0
 }
 
-fn grade_listed(fy: u64) -> bool
-    ensures { λ r. ⌜ r ≡ gradeListed fy ⌝ }
+pub fn in_range(q: Query) -> bool
+    ensures { λ r. ⌜ r ≡ inRange q ⌝ }
 {
-    match fy {
-        280 => true,
-        420 => true,
-        520 => true,
-        _ => false,
-    }
+    let slab = both(within(90, 500, q.t), depth_listed(q.d, q.t));
+    let loaded = both(q.m <= 2000000000, within(1, 12000, q.b));
+    both(loaded, both(slab, materials_ok(q.fc, q.fy)))
 }
 
-pub fn in_range(m: u64, b: u64, t: u64, d: u64, fc: u64, fy: u64) -> bool
-    ensures { λ r. ⌜ r ≡ inRange m b t d fc fy ⌝ }
+// d, or what 0 stands for.
+pub fn depth_of(q: Query) -> u64
+    requires { ⌜ InRange q ⌝ }
+    ensures { λ r. ⌜ r ≡ depthOf q ⌝ }
 {
-    let sizes = both(
-        within(1, 12000, b),
-        both(within(90, 500, t), depth_listed(d, t)),
-    );
-    let materials = both(within(20, 60, fc), grade_listed(fy));
-    both(m <= 2000000000, both(sizes, materials))
-}
-
-// The depth that d = 0 stands for.
-fn default_depth(t: u64) -> u64
-    requires { ⌜ 90 ≤ t ⌝ }
-    ensures { λ r. ⌜ r ≡ defaultDepth t ⌝ }
-{
-    t - 26
-}
-
-pub fn depth_of(d: u64, t: u64) -> u64
-    requires { ⌜ 90 ≤ t ⌝ }
-    ensures { λ r. ⌜ r ≡ depthOf d t ⌝ }
-{
-    if d == 0 { default_depth(t) } else { d }
+    if q.d == 0 { q.t - 26 } else { q.d }
 }

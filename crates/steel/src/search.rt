@@ -1,8 +1,11 @@
 // The least area over any limits: what an edition asks enters by its numbers alone.
-use crate::rounding::rounded_up;
-use verdict::Answer;
+use answers::Answer;
+use answers::refused_query;
+use answers::success;
+use numbers::rounded_up;
 ghost use mathlib.Core.Path.{_≡_};
-ghost use Rattle.steel.specs.Search.{Searchable, leastWithin};
+ghost use Rattle.steel.specs.Asked.{Searchable};
+ghost use Rattle.steel.specs.Search.{leastWithin};
 
 // An area As carries the moment where 9·As·fy·(block − 10·As·fy) ≥ load; it is to lie from `least` to `most`.
 pub struct Limits {
@@ -28,15 +31,9 @@ pub fn least_within(l: Limits) -> Answer
         let tension = area * fy;
         let carried = 9 * tension * (block - 10 * tension);
         if load <= carried {
-            return Answer {
-                refusal: 0,
-                value: area as u32,
-            };
+            return success(area as u32);
         }
         area += rounded_up(load - carried, 9 * fy * (block - 20 * tension));
     }
-    Answer {
-        refusal: 12,
-        value: 0,
-    }
+    refused_query(12)
 }

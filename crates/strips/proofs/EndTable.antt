@@ -11,8 +11,8 @@ use lib.Dec.{eqb, leb, lit<, lit≤}
 use borrow.Author.Tests.{eqb-true, leb-true}
 use Rattle.numbers.specs.Tests.{until, all}
 use Rattle.numbers.proofs.Tests.{at}
-use Rattle.floor.specs.declared.layout.Layout.{Layout}
-use Rattle.floor.specs.declared.layout.Layout.the-variants.{Everywhere, OuterOnly, Bare}
+use Rattle.layouts.specs.declared.Layout.{Layout}
+use Rattle.layouts.specs.declared.Layout.the-variants.{Everywhere, OuterOnly, Bare}
 use Rattle.strips.specs.declared.endspan.SpanPlace.{SpanPlace}
 use Rattle.strips.specs.declared.endspan.SpanPlace.the-variants.{OuterEnd, Between, InnerEnd}
 use Rattle.strips.specs.EndTable.{innerPercent, tableAt, layoutRow, endRow, endPercent, balance}

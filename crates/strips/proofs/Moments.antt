@@ -8,7 +8,7 @@ use lib.Dec.{lit<}
 use Rattle.numbers.specs.Least.{Least}
 use Rattle.numbers.proofs.Bounded.{_⊕_, _⊗_, #}
 use Rattle.numbers.proofs.Rounded.{exact, up-reaches, up-first}
-use Rattle.strips.specs.MomentRanges.{Spanned, Loaded}
+use Rattle.strips.specs.Asked.{SpanSizes, Loaded}
 use Rattle.strips.specs.Moments.{clearLength, staticMoment}
 
 -- a hundred clear lengths are 01's maximum a hundred times over, with no rounding in it
@@ -26,7 +26,7 @@ moment-least D L W ln = record { holds = up-reaches _ {d = 80000000000} (lit< tt
 
 -- ---- their ranges
 
-pub clear-most : {l1 column : ℕ} → Spanned l1 column → clearLength l1 column ≤ 12000
+pub clear-most : {l1 column : ℕ} → SpanSizes l1 column → clearLength l1 column ≤ 12000
 unfolding clearLength
 clear-most s = omega arith
 

@@ -7,7 +7,7 @@ use Prim.Native.Nat.{ℕ, _+_, _-_, _*_, _≤_}
 use native.Mathlib.Nat.{mul-le-mul-left, mul-le-mul-right}
 use native.Mathlib.Omega.{arith}
 use Rattle.numbers.proofs.Bounded.{_⊗_}
-use Rattle.strips.specs.MomentRanges.{Crossing, ShareRatios, OuterRatios}
+use Rattle.strips.specs.Asked.{Crossing, ShareRatios, OuterRatios}
 use Rattle.strips.specs.Strips.{part, outerNegative}
 
 module _ {base crossover A R : ℕ} (l : Crossing base crossover) (s : ShareRatios A R) where

@@ -4,7 +4,7 @@ use mathlib.Core.Path.{_≡_}
 use Prim.Native.Nat.{ℕ, _*_, _≤_}
 use native.Mathlib.Nat.{zero-div, le-div-iff-mul-le, div-le-of-le-mul}
 use native.Mathlib.Omega.{arith}
-use Rattle.strips.specs.MomentRanges.{Proportioned}
+use Rattle.strips.specs.Asked.{Proportioned}
 use Rattle.strips.specs.Ratios.{stiffnessRatio, spanRatio, torsionRatio}
 
 -- "T of the outer beam across that end, 0 without one"

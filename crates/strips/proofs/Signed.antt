@@ -8,7 +8,7 @@ use lib.IntN.{pos, _+ℤ_, _-ℤ_, _*ℤ_}
 use borrow.Author.Needs.{needs}
 use Rattle.numbers.specs.Rounding.{floorOf}
 use Rattle.numbers.proofs.Integers.{plusFloor-is, times-sub, sub-sub, diff}
-use Rattle.strips.specs.MomentRanges.{Crossing, ShareRatios, OuterRatios}
+use Rattle.strips.specs.Asked.{Crossing, ShareRatios, OuterRatios}
 use Rattle.strips.specs.Strips.{part, between, innerNegative, outerNegative}
 use Rattle.strips.proofs.Parts.{part-reach, outer-reach}
 

@@ -5,8 +5,8 @@ use mathlib.Core.Bool.{cond}
 use mathlib.Core.List.{List, [], _∷_}
 use lib.Dec.{eqb}
 use lib.ListN.{getD}
-use Rattle.floor.specs.declared.layout.Layout.{Layout}
-use Rattle.floor.specs.declared.layout.Layout.the-variants.{Everywhere, OuterOnly, Bare}
+use Rattle.layouts.specs.declared.Layout.{Layout}
+use Rattle.layouts.specs.declared.Layout.the-variants.{Everywhere, OuterOnly, Bare}
 use Rattle.strips.specs.declared.endspan.SpanPlace.{SpanPlace}
 use Rattle.strips.specs.declared.endspan.SpanPlace.the-variants.{OuterEnd, Between, InnerEnd}
 

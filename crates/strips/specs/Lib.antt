@@ -1,4 +1,4 @@
-pub mod MomentRanges
+pub mod Asked
 pub mod Moments
 pub mod EndTable
 pub mod Ratios

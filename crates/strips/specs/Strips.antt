@@ -31,7 +31,7 @@ abbrev pub share : ℕ → ℕ → ℕ → ℕ
 share total n d = total * n / d
 
 -- that number, and no more than the total
-pub record Taken (total n d r : ℕ) : Type 0 where
+pub record ShareOf (total n d r : ℕ) : Type 0 where
   pub is : r ≡ share total n d
   pub most : r ≤ total
 

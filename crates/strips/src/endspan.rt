@@ -1,9 +1,9 @@
 // The percentages of Mo at the sections of a span, and their totals.
 ghost use mathlib.Core.Path.{_≡_};
 ghost use Prim.Native.Nat.{_<_, _≤_};
-ghost use Rattle.strips.specs.MomentRanges.{Percentage};
+ghost use Rattle.strips.specs.Asked.{Percentage};
 ghost use Rattle.strips.specs.EndTable.{placeColumn, layoutRow, endRow, endPercent, innerPercent, sectionTotal};
-use floor::layout::Layout;
+use layouts::Layout;
 
 // Where a section lies: the end-span table's columns.
 pub enum SpanPlace {

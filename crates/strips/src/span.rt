@@ -1,14 +1,15 @@
 // A span of a frame: its clear length, its static moment, and the ratios A, R and B that share its moments out.
 ghost use mathlib.Core.Path.{_≡_};
 ghost use Prim.Native.Nat.{_≤_};
-ghost use Rattle.strips.specs.MomentRanges.{Spanned, Loaded, Stiffened, Proportioned, Twisted};
+ghost use Rattle.strips.specs.Asked.{SpanSizes, Loaded, Stiffened, Proportioned, Twisted};
 ghost use Rattle.strips.specs.Moments.{clearLength, staticMoment};
 ghost use Rattle.strips.specs.Ratios.{stiffnessRatio, spanRatio, torsionRatio};
 use numbers::larger;
+use numbers::rounded_up;
 use numbers::smaller;
 
 pub fn clear_length(l1: u64, column: u64) -> u64
-    requires { ⌜ Spanned l1 column ⌝ }
+    requires { ⌜ SpanSizes l1 column ⌝ }
     ensures { λ r. ⌜ (r ≡ clearLength l1 column) × (r ≤ 12000) ⌝ }
 {
     larger(l1 - column, 65 * l1 / 100)
@@ -19,7 +20,10 @@ pub fn static_moment(dead: u64, live: u64, width: u64, clear: u64) -> u64
     requires { ⌜ Loaded dead live width clear ⌝ }
     ensures { λ r. ⌜ (r ≡ staticMoment dead live width clear) × (r ≤ 25056000) ⌝ }
 {
-    ((12 * dead + 16 * live) * width * (clear * clear) + 79999999999) / 80000000000
+    rounded_up(
+        (12 * dead + 16 * live) * width * (clear * clear),
+        80000000000,
+    )
 }
 
 // A, in ten-thousandths.

@@ -2,8 +2,8 @@
 ghost use mathlib.Core.Path.{_≡_};
 ghost use Prim.Native.Nat.{_≤_};
 ghost use Rattle.numbers.specs.Rounding.{plusFloor};
-ghost use Rattle.strips.specs.MomentRanges.{Floored, Crossing, ShareRatios, OuterRatios, Fraction, Divided, Parted};
-ghost use Rattle.strips.specs.Strips.{part, between, innerNegative, outerNegative, share, Taken, columnStrip, evenStrip, split};
+ghost use Rattle.strips.specs.Asked.{Floored, Crossing, ShareRatios, OuterRatios, Fraction, SectionShare, Parted};
+ghost use Rattle.strips.specs.Strips.{part, between, innerNegative, outerNegative, share, ShareOf, columnStrip, evenStrip, split};
 
 // k + floor((p − q)/d), the floor toward minus infinity.
 fn plus_floor(k: u64, p: u64, q: u64, d: u64) -> u64
@@ -59,7 +59,7 @@ pub struct Strips {
 // n parts of d of a total, rounded down.
 fn share(total: u64, n: u64, d: u64) -> u64
     requires { ⌜ Fraction total n d ⌝ }
-    ensures { λ r. ⌜ Taken total n d r ⌝ }
+    ensures { λ r. ⌜ ShareOf total n d r ⌝ }
 {
     total * n / d
 }
@@ -79,7 +79,7 @@ fn split(total: u64, column: u64, a: u64) -> Strips
 }
 
 fn divided(total: u64, n: u64, d: u64, a: u64) -> Strips
-    requires { ⌜ Divided total n d a ⌝ }
+    requires { ⌜ SectionShare total n d a ⌝ }
     ensures { λ r. ⌜ r ≡ split total (share total n d) a ⌝ }
 {
     split(total, share(total, n, d), a)
@@ -87,7 +87,7 @@ fn divided(total: u64, n: u64, d: u64, a: u64) -> Strips
 
 // Evenly: the column strip takes what its width has of the frame width.
 pub fn evenly(total: u64, strip: u64, width: u64, a: u64) -> Strips
-    requires { ⌜ Divided total strip width a ⌝ }
+    requires { ⌜ SectionShare total strip width a ⌝ }
     ensures { λ r. ⌜ r ≡ split total (evenStrip total strip width) a ⌝ }
 {
     divided(total, strip, width, a)
@@ -95,7 +95,7 @@ pub fn evenly(total: u64, strip: u64, width: u64, a: u64) -> Strips
 
 // By a column strip part: as much as it has of 10000.
 pub fn by_part(total: u64, part: u64, a: u64) -> Strips
-    requires { ⌜ Divided total part 10000 a ⌝ }
+    requires { ⌜ SectionShare total part 10000 a ⌝ }
     ensures { λ r. ⌜ r ≡ split total (columnStrip total part) a ⌝ }
 {
     divided(total, part, 10000, a)

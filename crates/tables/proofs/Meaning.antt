@@ -18,7 +18,7 @@ use Rattle.plan.specs.Plan.{bays, lastLine, many}
 use Rattle.plan.proofs.Directions.{span-count}
 use Rattle.tables.specs.declared.named.Spans.{Spans}
 use Rattle.tables.specs.Places.{Place, Inside, recordCount, lineFirst, placeOf}
-use Rattle.tables.specs.Named.{wholeIf, namedSpans, within, named, namedAt}
+use Rattle.tables.specs.Named.{wholeIf, namedSpans, among, named, namedAt}
 use Rattle.tables.specs.Meaning.{Names}
 use Rattle.tables.specs.Meaning.Names.{loads, own-span, beside, own-line, first-span, last-span}
 use Rattle.tables.proofs.Naming.{at-loads, at-own-span, at-span-across, at-own-line, at-line-across, by-naming, by-spans}
@@ -28,8 +28,8 @@ use Rattle.tables.proofs.Numbered.{place-inside, number-place}
 abbrev Of : Spans → ℕ → Type 0
 Of r s = (r .from ≤ s) × (s < r .to)
 
-says-within : (r : Spans) (s : ℕ) → Says (within r s) (Of r s)
-says-within r s = says-and (says-le (r .from) s) (says-lt s (r .to))
+says-among : (r : Spans) (s : ℕ) → Says (among r s) (Of r s)
+says-among r s = says-and (says-le (r .from) s) (says-lt s (r .to))
 
 says-beside : (l i : ℕ) → Says (eqb l i || eqb l (i + 1)) ((l ≡ i) ⊎ (l ≡ i + 1))
 says-beside l i = says-or (says-eq l i) (says-eq l (i + 1))
@@ -79,7 +79,7 @@ module _ (f : List ℕ) (kind index : ℕ) where
         (omega arith, omega arith)
 
     pub says-named : Says (named f kind index p) (Names f kind index p)
-    says-named = says-as names-of of-names (says-within spans (p .span))
+    says-named = says-as names-of of-names (says-among spans (p .span))
 
   -- the same of a record by its number
   pub says-named-at : {k : ℕ} → k < recordCount f → Says (namedAt f kind index k) (Names f kind index (placeOf f k))
@@ -88,7 +88,7 @@ module _ (f : List ℕ) (kind index : ℕ) where
 
   -- the named records of a line follow one another
   pub named-line : (d : Way) (l s : ℕ) → l ≤ lastLine f d → s < bays f d
-      → namedAt f kind index (lineFirst f d l + s) ≡ within (namedSpans kind index d l (bays f d)) s
+      → namedAt f kind index (lineFirst f d l + s) ≡ among (namedSpans kind index d l (bays f d)) s
   unfolding namedAt
   named-line d l s hl hs =
       ap (λ (p : Place). named f kind index p) (number-place f {p = record { way = d; line = l; span = s }} (record { line = hl; span = hs }))

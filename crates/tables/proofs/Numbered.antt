@@ -14,9 +14,13 @@ use Rattle.numbers.proofs.Tests.{by-test, says-lt}
 use Rattle.plan.specs.declared.ways.Way.{Way}
 use Rattle.plan.specs.declared.ways.Way.the-variants.{X, Y}
 use Rattle.plan.specs.Ways.{pick}
+use Rattle.plan.specs.declared.read.Bays.{Bays}
 use Rattle.plan.specs.Plan.{bays, lastLine}
+use Rattle.plan.specs.Plan.{baysOf}
+use Rattle.plan.specs.Asked.{Sized}
 use Rattle.plan.proofs.Reading.{bays-most}
-use Rattle.tables.specs.Places.{Place, Inside, recordCount, firstOf, lineFirst, numberOf, placeOf}
+use Rattle.tables.specs.Places.{Place, Inside, recordsOf, recordCount, firstIn, lineFirstIn, firstOf, lineFirst, numberOf, placeOf}
+use Rattle.tables.specs.Asked.{Bayed}
 
 -- ---- one direction, whose lines have n spans
 
@@ -46,16 +50,37 @@ span-in n m k h = mod-lt k (some-span n (m + 1) k h)
 pub frames-most : {m n : ℕ} → m ≤ 12 → n ≤ 12 → (m + 1) * n ≤ 156
 frames-most hm hn = (hm ⊕ # 1) ⊗ hn
 
-module _ (f : List ℕ) where
+module _ {b : Bays} (h : Bayed b) where
   -- the frames along d start here
-  pub first-is : (d : Way) → pick d 0 ((bays f Y + 1) * bays f X) ≡ firstOf f d
+  pub first-is : (d : Way) → pick d 0 ((b .y + 1) * b .x) ≡ firstIn b d
   first-is X = refl
   first-is Y = refl
 
-  pub first-most : (d : Way) → firstOf f d ≤ 156
+  pub first-most : (d : Way) → firstIn b d ≤ 156
   first-most X = omega arith
-  first-most Y = frames-most (bays-most f Y) (bays-most f X)
+  first-most Y = frames-most (h .y) (h .x)
 
+  pub along-most : (d : Way) → pick d (b .x) (b .y) ≤ 12
+  along-most X = h .x
+  along-most Y = h .y
+
+-- the bays at hand are a floor's
+module _ {f : List ℕ} {b : Bays} (h : Sized f b) where
+  pub bayed : Bayed b
+  bayed = record { x = h .x-most; y = h .y-most }
+
+  pub counted : {n : ℕ} → n ≡ recordsOf b → n ≡ recordCount f
+  unfolding recordCount
+  counted e = e ∙ rw (h .is)
+
+  pub line-starts : {n : ℕ} (d : Way) (l : ℕ) → n ≡ lineFirstIn b d l → n ≡ lineFirst f d l
+  line-starts d l e = e ∙ rw (h .is) (line-first-is d)
+    where
+      line-first-is : (w : Way) → lineFirstIn (baysOf f) w l ≡ lineFirst f w l
+      line-first-is X = refl
+      line-first-is Y = refl
+
+module _ (f : List ℕ) where
   -- the lines of x end where those of y start, and the lines of y where the table does
   pub lines-sum-x : firstOf f X + (lastLine f X + 1) * bays f X ≡ firstOf f Y
   lines-sum-x = omega arith

@@ -1,14 +1,10 @@
 -- "Verdict not 0: all of them are 0."
 -- Assumes nothing.
-use Prim.Native.Nat.{ℕ, _*_, _≤_}
+use Prim.Native.Nat.{ℕ}
 use mathlib.Core.List.{List}
-use lib.ListN.{length, replicate}
+use lib.ListN.{replicate}
 use Rattle.numbers.specs.Records.{written, every}
 use Rattle.tables.specs.Width.{recordWidth}
-
--- room for n records
-pub record Room (n : ℕ) (t : List ℕ) : Type 0 where
-  pub room : n * recordWidth ≤ length t
 
 abbrev pub zeros : ℕ → List ℕ
 zeros k = replicate recordWidth 0

@@ -3,3 +3,4 @@ pub mod Places
 pub mod Named
 pub mod Meaning
 pub mod Blank
+pub mod Asked

@@ -1,6 +1,6 @@
 -- "What a change may write": the records named for a change of this kind and index, line by line.
 -- Assumes nothing.
-use Prim.Native.Nat.{ℕ, _+_, _-_, _≤_}
+use Prim.Native.Nat.{ℕ, _+_, _-_}
 use mathlib.Core.Bool.{Bool, cond, _&&_, _||_}
 use mathlib.Core.List.{List}
 use lib.Dec.{eqb, ltb, leb}
@@ -41,17 +41,13 @@ namedSpans kind index d l n =
     -- "Offset: none"
     noSpan))))
 
-abbrev pub within : Spans → ℕ → Bool
-within r s = leb (r .from) s && ltb s (r .to)
+-- span s is one of these
+abbrev pub among : Spans → ℕ → Bool
+among r s = leb (r .from) s && ltb s (r .to)
 
 abbrev pub named : List ℕ → ℕ → ℕ → Place → Bool
-named f kind index p = within (namedSpans kind index (p .way) (p .line) (bays f (p .way))) (p .span)
+named f kind index p = among (namedSpans kind index (p .way) (p .line) (bays f (p .way))) (p .span)
 
 -- record k is named
 unfoldable pub namedAt : List ℕ → ℕ → ℕ → ℕ → Bool
 namedAt f kind index k = named f kind index (placeOf f k)
-
--- a line of n spans, and the index of a record of some floor
-pub record Naming (n index : ℕ) : Type 0 where
-  pub least : 1 ≤ n
-  pub index-most : index ≤ 168

@@ -6,7 +6,10 @@ use mathlib.Core.List.{List}
 use lib.Dec.{ltb}
 use Rattle.plan.specs.declared.ways.Way.{Way}
 use Rattle.plan.specs.declared.ways.Way.the-variants.{X, Y}
+use Rattle.plan.specs.declared.read.Bays.{Bays}
+use Rattle.plan.specs.Ways.{pick}
 use Rattle.plan.specs.Plan.{bays, lastLine}
+use Rattle.plan.specs.Plan.{baysOf}
 
 -- a span: of line `line` along `way`
 pub record Place : Type 0 where
@@ -20,13 +23,22 @@ pub record Inside (f : List ℕ) (p : Place) : Type 0 where
   pub span : p .span < bays f (p .way)
 
 -- how many records: "(ny+1)nx+(nx+1)ny"
+abbrev pub recordsOf : Bays → ℕ
+recordsOf b = (b .y + 1) * b .x + (b .x + 1) * b .y
+
 unfoldable pub recordCount : List ℕ → ℕ
-recordCount f = (bays f Y + 1) * bays f X + (bays f X + 1) * bays f Y
+recordCount f = recordsOf (baysOf f)
 
 -- the record with which the frames along a direction start, and those of line l along it
+abbrev pub firstIn : Bays → Way → ℕ
+firstIn b X = 0
+firstIn b Y = (b .y + 1) * b .x
+
+abbrev pub lineFirstIn : Bays → Way → ℕ → ℕ
+lineFirstIn b d l = firstIn b d + l * pick d (b .x) (b .y)
+
 abbrev pub firstOf : List ℕ → Way → ℕ
-firstOf f X = 0
-firstOf f Y = (bays f Y + 1) * bays f X
+firstOf f d = firstIn (baysOf f) d
 
 abbrev pub lineFirst : List ℕ → Way → ℕ → ℕ
 lineFirst f d l = firstOf f d + l * bays f d

@@ -1,11 +1,15 @@
 // The records that a change names (01, "What a change may write"): of each line, spans that follow one another.
 ghost use mathlib.Core.Path.{_≡_};
 ghost use Prim.Native.Nat.{_≤_};
-ghost use Rattle.tables.specs.Named.{allSpans, wholeIf, endSpan, namedSpans, Naming};
+ghost use Rattle.tables.specs.Named.{allSpans, wholeIf, endSpan, namedSpans};
+ghost use Rattle.tables.specs.Asked.{Naming};
 use plan::ways::Way;
 use plan::ways::across;
 use plan::ways::line_kind;
 use plan::ways::span_kind;
+
+// The kind of the loads, which name every record.
+pub const LOADS: u32 = 3;
 
 // Spans from `from` on, below `to`.
 pub struct Spans {
@@ -49,7 +53,7 @@ pub fn named_spans(kind: u32, index: u32, d: Way, l: u32, n: u32) -> Spans
     ensures { λ r. ⌜ r ≡ namedSpans kind index d l n ⌝ }
 {
     let over = across(d);
-    if kind == 3 {
+    if kind == LOADS {
         return all_spans(n);
     }
     if kind == span_kind(d) {

@@ -3,7 +3,8 @@ ghost use mathlib.Core.Path.{_≡_};
 ghost use Prim.Native.Nat.{_+_};
 ghost use Rattle.numbers.specs.Records.{put};
 ghost use Rattle.tables.specs.Width.{recordWidth};
-ghost use Rattle.tables.specs.Blank.{Room, blanked};
+ghost use Rattle.tables.specs.Blank.{blanked};
+ghost use Rattle.tables.specs.Asked.{Room};
 
 // How many numbers a record has.
 pub const WIDTH: usize = 16;

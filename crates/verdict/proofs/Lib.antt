@@ -1,7 +1,3 @@
-pub mod Digits
-pub mod Meaning
-pub mod Edges
-pub mod AtPlace
-pub mod Apart
+pub mod Query
 pub mod Sum
 pub mod Answers

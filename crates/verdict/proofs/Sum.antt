@@ -1,47 +1,27 @@
--- Each limit looked at place by place is the definition's own, and the sum of all is the verdict.
---     summed               from what each call answers
---     beamed, beamless     limit 32, by cases of the layout
+-- The sum of what each limit answers is the verdict.
 -- Assumes nothing.
-use Prim.Native.Nat.{ℕ}
-use mathlib.Core.Bool.{Bool, true, false, _||_}
+use Prim.Native.Nat.{ℕ, _*_}
+use mathlib.Core.Bool.{Bool, _||_}
 use mathlib.Core.List.{List}
-use mathlib.Core.Path.{_≡_, refl}
-use Rattle.numbers.specs.Tests.{until}
-use Rattle.plan.specs.declared.ways.Way.{Way}
+use mathlib.Core.Path.{_≡_}
+use lib.Dec.{ltb}
 use Rattle.plan.specs.declared.ways.Way.the-variants.{X, Y}
-use Rattle.floor.specs.declared.layout.Layout.{Layout}
-use Rattle.floor.specs.Layouts.{layoutOf}
-use Rattle.lines.specs.Lines.{isEverywhere}
-use Rattle.verdict.specs.declared.places.Limit.the-variants.{Uneven, Astray, Thin}
-use Rattle.verdict.specs.Limits.{somePair, somePanel, few, slenderPanel, uneven, astray, heavy, unequalPanel, unbalanced, thinPanel, sumOf, verdict}
-use Rattle.verdict.specs.Places.{breaks, along, across, somewhere}
+use Rattle.lines.specs.declared.slab.Slab.{Slab}
+use Rattle.lines.specs.Slabs.{slabOf}
+use Rattle.lines.proofs.Slabs.{bays-of, loads-of}
+use Rattle.limits.specs.Limits.{somePanel, few, slenderPanel, uneven, astray, heavy, unbalanced, thinPanel, sumOf, verdict}
 
-module _ (f : List ℕ) where
-  -- one row
-  uneven-places : (d : Way) → somewhere f (Uneven d) ≡ uneven f d
-  unfolding somewhere along across breaks somePair until uneven
-  uneven-places d = refl
+module _ (f : List ℕ) {slab : Slab} (shared : slab ≡ slabOf f) where
+  few-is : {a : Bool} → a ≡ (ltb (slab .bays .x) 3 || ltb (slab .bays .y) 3) → a ≡ few f
+  unfolding few
+  few-is e = cc (bays-of f shared X .0, bays-of f shared Y .0)
 
-  astray-places : (d : Way) → somewhere f (Astray d) ≡ astray f d
-  unfolding somewhere along across breaks astray
-  astray-places d = refl
+  heavy-is : {e : Bool} → e ≡ ltb (2 * slab .dead) (slab .live) → e ≡ heavy f
+  unfolding heavy
+  heavy-is q = cc (loads-of f shared .0, loads-of f shared .1)
 
-  thin-places : somewhere f Thin ≡ somePanel f (thinPanel f)
-  unfolding somewhere along across breaks
-  thin-places = refl
-
-  pub summed : {a b c c₁ c₂ d d₁ d₂ e g h : Bool} {r : ℕ} → a ≡ few f → b ≡ somePanel f (slenderPanel f) → c₁ ≡ somewhere f (Uneven X) → c₂ ≡ somewhere f (Uneven Y)
-      → c ≡ (c₁ || c₂) → d₁ ≡ somewhere f (Astray X) → d₂ ≡ somewhere f (Astray Y) → d ≡ (d₁ || d₂) → e ≡ heavy f → g ≡ unbalanced f → h ≡ somewhere f Thin
-      → r ≡ sumOf a b c d e g h → r ≡ verdict f
+  pub summed : {a b c x y d e g h : Bool} {r : ℕ} → a ≡ (ltb (slab .bays .x) 3 || ltb (slab .bays .y) 3) → b ≡ somePanel f (slenderPanel f)
+      → x ≡ uneven f X → y ≡ uneven f Y → c ≡ (x || y) → d ≡ astray f → e ≡ ltb (2 * slab .dead) (slab .live) → g ≡ unbalanced f
+      → h ≡ somePanel f (thinPanel f) → r ≡ sumOf a b c d e g h → r ≡ verdict f
   unfolding verdict
-  summed pa pb pc₁ pc₂ pc pd₁ pd₂ pd pe pg ph pr =
-      cc (uneven-places X, uneven-places Y, astray-places X, astray-places Y, thin-places)
-
-  module _ {layout : Layout} {everywhere : Bool} (laid : layout ≡ layoutOf f) (is : everywhere ≡ isEverywhere layout) where
-    pub beamed : {r : Bool} → everywhere ≡ true → r ≡ somePanel f (unequalPanel f) → r ≡ unbalanced f
-    unfolding unbalanced
-    beamed t e = rw (← laid, ← is, t) e
-
-    pub beamless : everywhere ≡ false → everywhere ≡ unbalanced f
-    unfolding unbalanced
-    beamless t = rw (← laid, ← is, t)
+  summed pa pb px py pc pd pe pg ph pr = cc (few-is pa, heavy-is pe)

@@ -1,7 +1,2 @@
-pub mod Limits
-pub mod Places
-pub mod Extremes
-pub mod Held
-pub mod Meaning
-pub mod Edges
 pub mod Answers
+pub mod Asked

@@ -1,66 +1,48 @@
 // What is broken in a floor (01, "The verdict"), and the least thickness of its panels.
-mod extremes;
-pub mod limits;
-mod panels;
-pub mod places;
-
 ghost use mathlib.Core.Path.{_≡_};
 ghost use Prim.Native.Nat.{_≤_};
+ghost use Rattle.floor.specs.Asked.{Accepted};
 ghost use Rattle.lines.specs.Lines.{panelThickness};
-ghost use Rattle.lines.specs.Held.{Ready};
-ghost use Rattle.verdict.specs.Limits.{few, heavy, verdict};
-ghost use Rattle.floor.specs.Fair.{Accepted};
-ghost use Rattle.verdict.specs.Held.{InPanel};
-ghost use Rattle.verdict.specs.Answers.{judged, hasPanel, panelOf};
+ghost use Rattle.lines.specs.Asked.{Ready};
+ghost use Rattle.limits.specs.Limits.{verdict};
+ghost use Rattle.verdict.specs.Asked.{InPanel};
+ghost use Rattle.verdict.specs.Answers.{hasPanel, panelOf};
+use answers::Answer;
+use extremes::slender;
+use extremes::unbalanced;
+use limits::few;
+use limits::heavy;
+use limits::sum_of;
+use lines::line::X;
+use lines::line::Y;
 use lines::line::alphas;
+use lines::line::panel_alphas;
 use lines::line::spans;
-use lines::panel::Slab;
 use lines::panel::panel_thickness;
-use lines::panel::slab_of;
+use lines::slab::Slab;
+use lines::slab::slab_of;
 use numbers::both;
 use numbers::either;
-use places::Limit;
-use places::somewhere;
+use places::astray;
+use places::thin;
+use places::uneven;
 use plan::ways::Way;
 
-fn few(f: &[u8]) -> bool
-    ensures { λ r. ⌜ r ≡ few (now (f .entry)) ⌝ }
-{
-    either(plan::bays(f, Way::X) < 3, plan::bays(f, Way::Y) < 3)
-}
-
-fn heavy(f: &[u8]) -> bool
-    ensures { λ r. ⌜ r ≡ heavy (now (f .entry)) ⌝ }
-{
-    limits::heavy(plan::dead(f), plan::live(f))
-}
-
-// The sum of what is broken.
-fn broken(
-    f: &[u8],
-    slab: Slab,
-    sx: &[u64; 13],
-    sy: &[u64; 13],
-    ax: &[u64; 13],
-    ay: &[u64; 13],
-) -> u32
-    requires { ⌜ Ready (now f) slab (now sx) (now sy) (now ax) (now ay) ⌝ }
+// The sum of what is broken, for a caller who has the floor's spans and α at hand.
+pub fn broken(f: &[u8], slab: Slab, spans: &[[u64; 13]; 2], alphas: &[[u64; 13]; 2]) -> u32
+    requires { ⌜ Ready (now f) slab (now spans) (now alphas) ⌝ }
     ensures { λ r. ⌜ (r ≡ verdict (now (f .entry))) × (r ≤ 127) ⌝ }
 {
-    limits::sum_of(
-        few(f),
-        panels::slender(f, slab, sx, sy, ax, ay),
-        either(
-            somewhere(f, slab, sx, sy, ax, ay, Limit::Uneven(Way::X)),
-            somewhere(f, slab, sx, sy, ax, ay, Limit::Uneven(Way::Y)),
-        ),
-        either(
-            somewhere(f, slab, sx, sy, ax, ay, Limit::Astray(Way::X)),
-            somewhere(f, slab, sx, sy, ax, ay, Limit::Astray(Way::Y)),
-        ),
-        heavy(f),
-        panels::unbalanced(f, slab, sx, sy, ax, ay),
-        somewhere(f, slab, sx, sy, ax, ay, Limit::Thin),
+    let x = uneven(f, Way::X, &spans[X], slab.bays.x);
+    let y = uneven(f, Way::Y, &spans[Y], slab.bays.y);
+    sum_of(
+        few(slab.bays.x, slab.bays.y),
+        slender(f, slab, spans),
+        either(x, y),
+        astray(f, slab, spans),
+        heavy(slab.dead, slab.live),
+        unbalanced(f, slab, spans, alphas),
+        thin(f, slab, spans, alphas),
     )
 }
 
@@ -68,36 +50,10 @@ pub fn verdict(f: &[u8]) -> u32
     requires { ⌜ Accepted (now f) ⌝ }
     ensures { λ r. ⌜ (r ≡ verdict (now (f .entry))) × (r ≤ 127) ⌝ }
 {
-    let sx = spans(f, Way::X);
-    let sy = spans(f, Way::Y);
-    let ax = alphas(f, Way::X);
-    let ay = alphas(f, Way::Y);
-    broken(f, slab_of(f), &sx, &sy, &ax, &ay)
-}
-
-// A refusal number, or 0 and what was asked; laid out as C has it, for the product's face.
-#[repr(C)]
-pub struct Answer {
-    pub refusal: u32,
-    pub value: u32,
-}
-
-// The refusal of a floor, or its verdict.
-pub fn judge(f: &[u8]) -> Answer
-    ensures { λ r. ⌜ r ≡ judged (now (f .entry)) ⌝ }
-{
-    let number = floor::refusal::refusal(f);
-    if number != 0 {
-        return Answer {
-            refusal: number,
-            value: 255,
-        };
-    }
-    let broken = verdict(f);
-    Answer {
-        refusal: 0,
-        value: broken,
-    }
+    let slab = slab_of(f);
+    let s = spans(f, slab.bays);
+    let a = alphas(f, slab, &s);
+    broken(f, slab, &s, &a)
 }
 
 fn has_panel(f: &[u8], x: u64, y: u64) -> bool
@@ -108,15 +64,17 @@ fn has_panel(f: &[u8], x: u64, y: u64) -> bool
     both(x < nx as u64, y < ny as u64)
 }
 
+// With α of the panel's own four lines.
 fn least_of(f: &[u8], x: u64, y: u64) -> u32
     requires { ⌜ InPanel (now f) x y ⌝ }
     ensures { λ r. ⌜ r ≡ panelThickness (now (f .entry)) x y ⌝ }
 {
-    let sx = spans(f, Way::X);
-    let sy = spans(f, Way::Y);
-    let ax = alphas(f, Way::X);
-    let ay = alphas(f, Way::Y);
-    panel_thickness(f, slab_of(f), &sx, &sy, &ax, &ay, x as u32, y as u32) as u32
+    let slab = slab_of(f);
+    let s = spans(f, slab.bays);
+    let i = x as u32;
+    let j = y as u32;
+    let a = panel_alphas(f, slab, &s, i, j);
+    panel_thickness(f, slab, &s, &a, i, j) as u32
 }
 
 // The least thickness, in mm, of the panel of x bay x and y bay y.

@@ -1,12 +1,7 @@
--- The three ways of Judging; a change that fits an accepted floor has its place there (placed), so `judge_copy` may be called.
+-- The three ways of Judging.
 -- Assumes nothing.
-use borrow.Author.Tests.{not-true, not-false}
-use mathlib.Core.Path.{sym, _∙_}
-use Rattle.changes.proofs.Meaning.{says-change}
-use Rattle.changes.proofs.Placing.{placed}
-use Rattle.changes.proofs.Judging.{held-refused, unfit, decided-copy}
-use native.Mathlib.Omega.{arith}
 use borrow.Author.Needs.{needs}
+use Rattle.changes.proofs.Judging.{held-refused, not-fitting, may-place, is-placed, copy-decides}
 use Rattle.changes.proofs.judge.Statement.{statement}
 use Rattle.changes.proofs.judge.Tie as tie
 
@@ -15,9 +10,22 @@ judge-spec =
     tie.close
     (tie.spec
     (λ c κs. search needs)
-    (λ c. held-refused _ _ (c .before .refusal .ensures) (λ z. omega arith))
     (λ c κs. search needs)
-    (λ c. unfit _ _ (omega arith) (sym (c .before .change-ok .ensures) ∙ not-true _ (c .if2 .taken)))
-    (λ c κs. sym (c .before .change-ok .ensures) ∙ not-false _ (c .if2 .left))
-    (λ c κs. rw (c .place-of .ensures .0) (placed _ _ (omega arith) (says-change _ _ .holds (sym (c .before .before .change-ok .ensures) ∙ not-false _ (c .before .if2 .left)))))
-    (λ c. decided-copy _ _ (omega arith) (says-change _ _ .holds (sym (c .before .before .before .change-ok .ensures) ∙ not-false _ (c .before .before .if2 .left))) _ _ (c .before .place-of .ensures .0) (c .judge-copy .ensures)))
+    (λ c. held-refused _ _ (c .before .before .refusal .ensures) (c .before .if1 .taken) (c .ruling-of .ensures))
+    (λ c κs. search needs)
+    (λ c κs. search needs)
+    (λ c κs. search needs)
+    (λ c. let b = c .before .before in
+    not-fitting _ _ (b .before .before .before .refusal .ensures) (b .before .before .if1 .left) (b .before .bays-of .ensures) (b .change-ok .ensures)
+    (c .before .if2 .taken) (c .ruling-of2 .ensures))
+    (λ c κs. let b = c .before in
+    may-place _ _ (b .before .before .before .refusal .ensures) (b .before .before .if1 .left) (b .before .bays-of .ensures) (b .change-ok .ensures) (c .if2 .left))
+    (λ c κs. let b = c .before .before in (
+      b .before .bays-of .ensures,
+      is-placed _ _ (b .before .before .before .refusal .ensures) (b .before .before .if1 .left) (b .before .bays-of .ensures) (b .change-ok .ensures)
+          (c .before .if2 .left) (c .change-place .ensures),
+    ))
+    (λ c κs. search needs)
+    (λ c. let b = c .before .before .before .before in
+    copy-decides _ _ (b .before .before .before .refusal .ensures) (b .before .before .if1 .left) (b .before .bays-of .ensures) (b .change-ok .ensures)
+    (c .before .before .before .if2 .left) (c .before .before .change-place .ensures) (c .before .judge-copy .ensures) (c .ruling-of3 .ensures)))

@@ -1,9 +1,7 @@
--- The three ways of Storing.
+-- The record lies in the floor, and stored there it makes the changed floor (Placing).
 -- Assumes nothing.
 use native.Mathlib.Omega.{arith}
-use mathlib.Core.Path.{sym, _∙_}
-use Rattle.changes.proofs.Meaning.{says-change}
-use Rattle.changes.proofs.Storing.{in-place, no-place, no-change}
+use Rattle.changes.proofs.Placing.{room, stored-changed}
 use borrow.Author.Needs.{needs}
 use Rattle.changes.proofs.store.Statement.{statement}
 use Rattle.changes.proofs.store.Tie as tie
@@ -12,15 +10,7 @@ pub store-spec : {M : Type 1} → statement M
 store-spec =
     tie.close
     (tie.spec
-    (λ c κs. search needs)
-    (λ c κs. sym (c .before .before .change-ok .ensures) ∙ c .before .if1 .taken)
     (λ c. search needs)
+    (λ c κs. let p = c .before .before .before .pre in omega (arith, room p, p .fits .full))
     (λ c. search needs)
-    (λ c. search needs)
-    (λ c κs. omega (arith, says-change _ _ .holds (sym (c .before .before .before .before .before .change-ok .ensures) ∙ c .before .before .before .before .if1 .taken) .full))
-    (λ c. search needs)
-    (λ c. in-place _ _ (c .before .before .before .before .before .before .before .before .change-ok .ensures) (c .before .before .before .before .before .before .before .if1 .taken) _ (c .before .before .before .before .before .place-of .ensures .0) (c .before .before .before .before .if2 .taken) (c .before .before .store-at .ensures))
-    (λ c. search needs)
-    (λ c. no-place _ _ (c .before .before .before .before .change-ok .ensures) (c .before .before .before .if1 .taken) _ (c .before .place-of .ensures .0) (c .if2 .left))
-    (λ c. search needs)
-    (λ c. no-change _ _ (c .before .change-ok .ensures) (c .if1 .left)))
+    (λ c. stored-changed (c .before .before .before .before .before .before .pre) (c .before .before .store-at .ensures)))

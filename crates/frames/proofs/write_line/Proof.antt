@@ -11,9 +11,9 @@ write-line-spec =
     tie.close
     (tie.spec
     (λ c κs. search needs)
-    (λ c κs. naming _ _ _ _ _ _ _ (c .before .before .before .pre) (c .bays .ensures .0))
-    (λ c κs. at-spans _ _ _ _ _ _ _ (c .before .before .before .before .before .before .before .pre) (c .before .before .before .before .bays .ensures .0) (c .before .before .before .named-spans .ensures))
+    (λ c κs. naming _ _ _ _ _ _ _ _ (c .before .before .before .pre) (c .along .ensures))
+    (λ c κs. at-spans _ _ _ _ _ _ _ _ (c .before .before .before .before .before .before .before .pre) (c .before .before .before .before .along .ensures) (c .before .before .before .named-spans .ensures))
     (λ c. search needs)
-    (λ c. c .before .before .write-spans .ensures
-    ∙ line-is _ _ _ _ _ _ _ (c .before .before .before .before .before .before .before .before .before .before .pre) (c .before .before .before .before .before .before .before .bays .ensures .0) (c .before .before .before .before .before .before .named-spans .ensures))
-    (λ c. line-left _ _ _ _ _ _ _ (c .before .before .before .before .before .before .pre) (c .before .before .before .bays .ensures .0) (c .before .before .named-spans .ensures) (c .if1 .left)))
+    (λ c. let b = c .before .before .before .before .before .before in
+    c .before .before .write-spans .ensures ∙ line-is _ _ _ _ _ _ _ _ (b .before .before .before .before .pre) (b .before .along .ensures) (b .named-spans .ensures))
+    (λ c. line-left _ _ _ _ _ _ _ _ (c .before .before .before .before .before .before .pre) (c .before .before .before .along .ensures) (c .before .before .named-spans .ensures) (c .if1 .left)))

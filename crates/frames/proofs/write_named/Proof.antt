@@ -1,7 +1,9 @@
 -- The x frames, then the y frames, which start where those end.
 -- Assumes nothing.
+use mathlib.Core.Path.{refl}
 use borrow.Author.Needs.{needs}
-use Rattle.frames.proofs.Frames.{both-ways}
+use Rattle.plan.specs.declared.ways.Way.the-variants.{X, Y}
+use Rattle.frames.proofs.Frames.{in-frames, both-ways}
 use Rattle.frames.proofs.write_named.Statement.{statement}
 use Rattle.frames.proofs.write_named.Tie as tie
 
@@ -9,8 +11,9 @@ pub write-named-spec : {M : Type 1} → statement M
 write-named-spec =
     tie.close
     (tie.spec
-    (λ c κs. search needs)
-    (λ c κs. search needs)
-    (λ c κs. search needs)
     (λ c. search needs)
-    (λ c. both-ways _ _ _ _ (c .before .before .before .before .before .before .write-lines .ensures) (c .before .before .write-lines2 .ensures)))
+    (λ c κs. in-frames _ _ _ _ (c .before .before .before .before .pre) X _ refl)
+    (λ c. search needs)
+    (λ c κs. in-frames _ _ _ _ (c .before .before .before .before .before .before .before .before .before .pre) Y _ (search needs))
+    (λ c. search needs)
+    (λ c. both-ways _ _ _ _ (c .before .before .before .before .before .before .before .write-lines .ensures) (c .before .before .write-lines2 .ensures)))

@@ -2,7 +2,7 @@
 -- Assumes nothing.
 use mathlib.Core.Path.{_∙_}
 use borrow.Author.Needs.{needs}
-use Rattle.frames.proofs.Spans.{span-few, record-worked, record-is}
+use Rattle.frames.proofs.Spans.{slabbed, record-worked, record-is}
 use Rattle.frames.proofs.write_span.Statement.{statement}
 use Rattle.frames.proofs.write_span.Tie as tie
 
@@ -10,7 +10,7 @@ pub write-span-spec : {M : Type 1} → statement M
 write-span-spec =
     tie.close
     (tie.spec
-    (λ c κs. record { few = span-few _ _ _ _ _ _ _ _ (c .before .before .pre) })
+    (λ c κs. slabbed _ _ _ _ _ _ _ _ (c .before .before .pre))
     (λ c κs. rw (c .before .span-view .ensures) (record-worked _ _ _ _ _ _ _ _ (c .before .before .before .before .pre)))
     (λ c κs. search needs)
     (λ c. search needs)

@@ -1,7 +1,9 @@
 -- Refused, or stored, judged afresh and rewritten (Ways).
 -- Assumes nothing.
 use borrow.Author.Needs.{needs}
-use Rattle.moments.proofs.Ways.{changed-refused, changed-takes, changed-rewriting, changed-taken}
+use Rattle.moments.specs.Lent.{lent}
+use Rattle.moments.proofs.Room.{changing-number}
+use Rattle.moments.proofs.Ways.{changed-refused, changed-takes, changed-placed, changed-settling, changed-taken, remade-table}
 use Rattle.moments.proofs.change.Statement.{statement}
 use Rattle.moments.proofs.change.Tie as tie
 
@@ -10,23 +12,20 @@ change-spec =
     tie.close
     (tie.spec
     (λ c κs. search needs)
-    (λ c. search needs)
-    (λ c. changed-refused _ _ _ (c .before .change-number .ensures) (c .if1 .taken))
-    (λ c κs. record { accepted = changed-takes _ _ _ (c .before .before .change-number .ensures) (c .before .if1 .left) .held })
-    (λ c κs. search needs)
-    (λ c κs. let b = c .before .before .before .before .before .before .before in
-    record { accepted = rw (c .before .before .before .store .ensures) (changed-takes _ _ _ (b .before .change-number .ensures) (b .if1 .left) .left) })
     (λ c κs. search needs)
     (λ c κs. search needs)
-    (λ c κs. let b = c .before .before .before .before in
-    let a = b .before .before .before .before .before .before .before .before in
-    changed-rewriting _ _ _ (a .before .change-number .ensures) (a .if1 .left) (b .before .before .before .before .store .ensures)
-    (b .verdict2 .ensures .0) (c .before .u16-at .ensures) (c .u16-at2 .ensures))
     (λ c. search needs)
     (λ c. search needs)
-    (λ c. let d = c .before .before .before in
-    let b = d .before .before .before .before in
-    let a = b .before .before .before .before .before .before .before .before in
-    changed-taken _ _ _ (a .before .change-number .ensures) (a .if1 .left) (b .before .before .before .before .before .before .verdict .ensures .0)
-    (b .before .before .before .before .store .ensures) (b .verdict2 .ensures .0) (d .before .u16-at .ensures) (d .u16-at2 .ensures)
-    (c .before .before .rewrite .ensures)))
+    (λ c. changed-refused _ _ _ (changing-number _ _ (lent _) (c .before .before .before .before .before .judge .ensures) (c .before .before .then-room .ensures)) (c .before .if1 .taken) (c .refused .ensures))
+    (λ c κs. record { accepted = changed-takes _ _ (lent _) (changing-number _ _ (lent _) (c .before .before .before .before .before .judge .ensures) (c .before .before .then-room .ensures)) (c .before .if1 .left) .held })
+    (λ c κs. changed-placed _ _ (lent _) (changing-number _ _ (lent _) (c .before .before .before .before .before .before .before .judge .ensures) (c .before .before .before .before .then-room .ensures)) (c .before .before .before .if1 .left) (c .before .before .before .before .before .before .before .judge .ensures))
+    (λ c κs. search needs)
+    (λ c κs. search needs)
+    (λ c κs. changed-settling _ _ (lent _) (changing-number _ _ (lent _) (c .before .before .before .before .before .before .before .before .before .before .before .before .before .before .judge .ensures) (c .before .before .before .before .before .before .before .before .before .before .before .then-room .ensures)) (c .before .before .before .before .before .before .before .before .before .before .if1 .left) (c .before .before .before .before .before .before .store .ensures) (c .before .u16-at .ensures) (c .u16-at2 .ensures))
+    (λ c κs. search needs)
+    (λ c. search needs)
+    (λ c. search needs)
+    (λ c. let a = c .before .before .before .before .before .before .before .before .before .before in
+    changed-taken _ _ _ (changing-number _ _ (lent _) (a .before .before .before .before .before .before .before .before .judge .ensures) (a .before .before .before .before .before .then-room .ensures)) (a .before .before .before .before .if1 .left) (a .store .ensures) (c .before .before .before .settle .ensures .0)
+    (remade-table _ _ _ (a .before .before .verdict .ensures .0) (a .store .ensures) (c .before .before .before .before .before .u16-at .ensures) (c .before .before .before .before .u16-at2 .ensures) (c .before .before .before .settle .ensures .1))
+    (c .success .ensures)))

@@ -1,18 +1,21 @@
--- By cases of the table's length.
+-- By cases of the table's length; the records are counted from the floor's bays.
 -- Assumes nothing.
 use borrow.Author.Needs.{needs}
-use borrow.Author.Tests.{lt-ltb, le-ltb}
-use Rattle.moments.specs.Tables.{roomRefusal}
+use borrow.Author.Tests.{lt-leb, le-leb}
+use Rattle.numbers.proofs.Chains.{stopped, went-on, ended}
+use Rattle.tables.proofs.Numbered.{bayed, counted}
+use Rattle.moments.specs.Tables.{roomRefusal, roomChecks}
 use Rattle.moments.proofs.room_refusal.Statement.{statement}
 use Rattle.moments.proofs.room_refusal.Tie as tie
 
 pub room-refusal-spec : {M : Type 1} → statement M
-unfolding roomRefusal
+unfolding roomRefusal roomChecks
 room-refusal-spec =
     tie.close
     (tie.spec
     (λ c κs. search needs)
+    (λ c κs. bayed (c .bays-of .ensures))
     (λ c. search needs)
     (λ c. search needs)
-    (λ c. rw (← c .before .record-count .ensures .0, lt-ltb _ _ (c .if1 .taken)))
-    (λ c. rw (← c .before .record-count .ensures .0, le-ltb _ _ (c .if1 .left))))
+    (λ c. rw (← counted (c .before .before .bays-of .ensures) (c .before .record-count .ensures .0)) (stopped _ _ _ _ (lt-leb _ _ (c .if1 .taken))))
+    (λ c. rw (← counted (c .before .before .bays-of .ensures) (c .before .record-count .ensures .0)) (went-on _ _ _ _ (le-leb _ _ (c .if1 .left)) ended)))

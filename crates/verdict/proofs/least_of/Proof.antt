@@ -2,7 +2,8 @@
 -- Assumes nothing.
 use borrow.Author.Needs.{needs}
 use Rattle.numbers.proofs.Bounded.{fits}
-use Rattle.verdict.proofs.AtPlace.{bays-few}
+use Rattle.lines.proofs.Slabs.{sized-of}
+use Rattle.verdict.proofs.Query.{bays-few, panel-at-hand}
 use Rattle.verdict.proofs.least_of.Statement.{statement}
 use Rattle.verdict.proofs.least_of.Tie as tie
 
@@ -11,23 +12,10 @@ least-of-spec =
     tie.close
     (tie.spec
     (λ c κs. search needs)
-    (λ c κs. search needs)
-    (λ c κs. search needs)
-    (λ c κs. search needs)
-    (λ c κs. search needs)
-    (λ c. fits (bays-few (c .before .before .before .before .before .before .before .before .before .before .pre) .0) tt)
-    (λ c. fits (bays-few (c .before .before .before .before .before .before .before .before .before .before .pre) .1) tt)
-    (λ c κs. let p = c .before .before .before .before .before .before .before .before .before .before .pre in record {
-      ready = record {
-        accepted = p .accepted;
-        shared = c .before .before .before .before .slab-of .ensures;
-        x-spans = c .before .before .before .before .before .before .before .before .spans .ensures;
-        y-spans = c .before .before .before .before .before .before .before .spans2 .ensures;
-        along-x = c .before .before .before .before .before .before .alphas .ensures;
-        along-y = c .before .before .before .before .before .alphas2 .ensures;
-      };
-      x-bay = p .x-bay;
-      y-bay = p .y-bay;
-    })
+    (λ c κs. sized-of _ (c .slab-of .ensures))
+    (λ c. fits (bays-few (c .before .before .before .pre) .0) tt)
+    (λ c. fits (bays-few (c .before .before .before .pre) .1) tt)
+    (λ c κs. panel-at-hand (c .before .before .before .before .pre) (c .before .before .slab-of .ensures) (c .before .spans .ensures))
+    (λ c κs. record { panel = panel-at-hand (c .before .before .before .before .before .before .before .pre) (c .before .before .before .before .before .slab-of .ensures) (c .before .before .before .before .spans .ensures); alphas = c .before .before .panel-alphas .ensures .known })
     (λ c. search needs)
     (λ c. search needs))

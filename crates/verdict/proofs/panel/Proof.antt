@@ -3,8 +3,9 @@
 use mathlib.Core.Path.{ap}
 use borrow.Author.Tests.{eq-eqb, ne-eqb, not-true, not-false}
 use borrow.Author.Needs.{needs}
-use Rattle.verdict.specs.Answers.{panelOf, answer}
-use Rattle.verdict.proofs.AtPlace.{in-panel}
+use Rattle.answers.specs.Answers.{answer}
+use Rattle.verdict.specs.Answers.{panelOf}
+use Rattle.verdict.proofs.Query.{in-panel}
 use Rattle.verdict.proofs.panel.Statement.{statement}
 use Rattle.verdict.proofs.panel.Tie as tie
 

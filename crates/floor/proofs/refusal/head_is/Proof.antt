@@ -8,10 +8,7 @@ pub head-is-spec : {M : Type 1} → statement M
 head-is-spec =
     tie.close
     (tie.spec
-    (λ c. search needs)
     (λ c κs. search needs)
-    (λ c. search needs)
-    (λ c. search needs)
     (λ c κs. search needs)
     (λ c κs. search needs)
     (λ c. cc))

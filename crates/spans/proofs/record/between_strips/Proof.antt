@@ -1,7 +1,7 @@
 -- Each callee's equation in turn.
 -- Assumes nothing.
 use borrow.Author.Needs.{needs}
-use Rattle.spans.specs.Sixteen.{betweenStrips}
+use Rattle.spans.specs.Record.{betweenStrips}
 use Rattle.spans.proofs.record.between_strips.Statement.{statement}
 use Rattle.spans.proofs.record.between_strips.Tie as tie
 
@@ -10,7 +10,6 @@ unfolding betweenStrips
 between-strips-spec =
     tie.close
     (tie.spec
-    (λ c κs. search needs)
     (λ c κs. search needs)
     (λ c κs. search needs)
     (λ c κs. search needs)

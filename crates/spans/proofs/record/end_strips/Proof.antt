@@ -11,17 +11,10 @@ end-strips-spec =
     (tie.spec
     (λ c κs. search needs)
     (λ c κs. search needs)
+    (λ c. even-end _ _ _ (c .before .before .before .section-total .ensures .0) (c .before .before .if1 .taken) (c .before .if2 .taken) (c .evenly .ensures))
+    (λ c κs. record { span = c .before .before .before .pre .span; beam = c .before .before .before .pre .beam })
     (λ c κs. search needs)
-    (λ c. let t = c .before .before .before in
-    even-end _ _ _ (t .before .percent-of .ensures .0) (t .section-total .ensures .0) (c .before .before .if1 .taken) (c .before .if2 .taken)
-    (c .evenly .ensures))
-    (λ c κs. search needs)
-    (λ c κs. search needs)
-    (λ c. let t = c .before .before .before .before in
-    part-end _ _ _ (t .before .percent-of .ensures .0) (t .section-total .ensures .0) (c .before .before .before .if1 .taken) (c .before .before .if2 .left)
-    (c .before .outer-part .ensures .0) (c .by-part .ensures))
+    (λ c. part-end _ _ _ (c .before .before .before .before .section-total .ensures .0) (c .before .before .before .if1 .taken) (c .before .before .if2 .left) (c .before .outer-part .ensures .0) (c .by-part .ensures))
     (λ c κs. search needs)
     (λ c κs. search needs)
-    (λ c. let t = c .before .before .before in
-    inner-end _ _ _ (t .before .percent-of .ensures .0) (t .section-total .ensures .0) (c .before .before .if1 .left)
-    (c .before .inner-negative .ensures .0) (c .by-part2 .ensures)))
+    (λ c. inner-end _ _ _ (c .before .before .before .section-total .ensures .0) (c .before .before .if1 .left) (c .before .inner-negative .ensures .0) (c .by-part2 .ensures)))

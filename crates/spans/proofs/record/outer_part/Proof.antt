@@ -1,7 +1,7 @@
 -- Each callee's equation in turn, in the range of the beam across the end.
 -- Assumes nothing.
 use borrow.Author.Needs.{needs}
-use Rattle.spans.specs.Sixteen.{outerPart}
+use Rattle.spans.specs.Record.{outerPart}
 use Rattle.spans.proofs.record.outer_part.Statement.{statement}
 use Rattle.spans.proofs.record.outer_part.Tie as tie
 

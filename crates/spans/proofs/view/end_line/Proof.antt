@@ -12,4 +12,4 @@ end-line-spec =
     (λ c. search needs)
     (λ c κs. search needs)
     (λ c. search needs)
-    (λ c. rw (c .before .enum-told2 .given .1) (c .bays .ensures .0)))
+    (λ c. rw (c .before .enum-told2 .given .1) (c .along .ensures)))

@@ -1,4 +1,4 @@
--- Each callee's equation in turn.
+-- Each callee's equation in turn, and the bays at hand are the floor's.
 -- Assumes nothing.
 use borrow.Author.Needs.{needs}
 use Rattle.spans.specs.Views.{outerEnd}
@@ -15,4 +15,4 @@ outer-end-spec =
     (λ c κs. search needs)
     (λ c κs. search needs)
     (λ c κs. search needs)
-    (λ c. cc))
+    (λ c. cc (c .before .before .before .before .before .before .pre .is)))

@@ -1,4 +1,4 @@
--- Each callee's equation in turn, in the range of the line and its beam.
+-- Each callee's equation in turn, in the range of the line.
 -- Assumes nothing.
 use borrow.Author.Needs.{needs}
 use Rattle.spans.specs.Works.{lineWork}
@@ -13,11 +13,6 @@ line-work-spec =
     (λ c. search needs)
     (λ c. search needs)
     (λ c. search needs)
-    (λ c. search needs)
-    (λ c. search needs)
     (λ c κs. search needs)
     (λ c κs. search needs)
-    (λ c κs. search needs)
-    (λ c κs. let h = c .before .before .before .before .before .before .before .before .pre in
-    (rw (c .of .ensures .0, c .of .ensures .1) (h .beam), c .before .before .frame-width .ensures .1))
     (λ c. cc))

@@ -4,7 +4,8 @@ use Prim.Native.Nat.{ℕ, _-_}
 use mathlib.Core.Path.{_≡_, sym, ap, _∙_}
 use native.Mathlib.Omega.{arith}
 use borrow.Author.Needs.{needs}
-use Rattle.steel.specs.Query.{within, depthListed}
+use Rattle.numbers.specs.Tests.{within}
+use Rattle.steel.specs.Query.{depthListed}
 use Rattle.steel.proofs.query.depth_listed.Statement.{statement}
 use Rattle.steel.proofs.query.depth_listed.Tie as tie
 

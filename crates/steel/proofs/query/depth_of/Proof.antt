@@ -11,6 +11,6 @@ unfolding depthOf
 depth-of-spec =
     tie.close
     (tie.spec
-    (λ c κs. search needs)
-    (λ c. rw (eq-eqb _ _ (c .before .if1 .taken)) (c .default-depth .ensures))
+    (λ c. search needs)
+    (λ c. rw (eq-eqb _ _ (c .before .if1 .taken)))
     (λ c. rw (ne-eqb _ _ (c .if1 .left))))

@@ -1,6 +1,7 @@
 -- The loop keeps: no area within the limits below `area` carries the moment.
 -- Assumes nothing.
 use Prim.Native.Nat.{suc, _-_, _*_, _≤_, _<_}
+use mathlib.Core.Path.{_∙_}
 use native.Mathlib.Nat.{le-trans, lt-of-le-of-lt, mul-pos}
 use native.Mathlib.Omega.{arith}
 use lib.Dec.{lit<}
@@ -38,7 +39,9 @@ least-within-spec =
     (λ c. omega (arith, tension c))
     (λ c. fits (# _ ⊗ most-tension c ⊗ (c .before .before .pre .room ⊖ _)) tt)
     (λ c. search needs)
-    (λ c. let i = c .before .before .loop .inv in met (c .before .before .before .pre) (i .1) (i .0) (omega arith) (omega arith))
+    (λ c κs. search needs)
+    (λ c. let i = c .before .before .before .loop .inv in
+    c .success .ensures ∙ met (c .before .before .before .before .pre) (i .1) (i .0) (omega arith) (omega arith))
     (λ c. search needs)
     (λ c. search needs)
     (λ c. fits (# _ ⊗ most-tension (c .before)) tt)
@@ -55,4 +58,5 @@ least-within-spec =
     rw (c .rounded-up .ensures) (goes-on _ _ _ _ (omega arith) (mul-pos (omega arith) (omega (arith, h))) (omega arith)))
     (λ c. let s = c .before .before .before .before .pre in
     (search needs, rw (c .rounded-up .ensures) (on s (c .before .before .before .loop .inv .1))))
-    (λ c. none (c .before .before .pre) (c .before .loop .inv .1) (omega arith)))
+    (λ c κs. search needs)
+    (λ c. c .refused-query .ensures ∙ none (c .before .before .before .pre) (c .before .before .loop .inv .1) (omega arith)))

@@ -1,8 +1,9 @@
--- Each product is bounded by the product of its bounds.
+-- Each product is bounded by the product of its bounds, so the quotient fits and is in its range (moment-most).
 -- Assumes nothing.
-use mathlib.Core.Path.{refl}
 use Prim.Native.Nat.{_+_, _*_, _≤_}
 use borrow.Author.Needs.{needs}
+use native.Mathlib.Omega.{arith}
+use lib.Dec.{lit<}
 use Rattle.strips.specs.Moments.{staticMoment}
 use Rattle.numbers.proofs.Bounded.{_⊕_, _⊗_, #, fits}
 use Rattle.strips.proofs.Moments.{moment-most}
@@ -28,5 +29,5 @@ static-moment-spec =
     (λ c. fits (load c) tt)
     (λ c. fits (square c) tt)
     (λ c. fits (load c ⊗ square c) tt)
-    (λ c. fits (load c ⊗ square c ⊕ # _) tt)
-    (λ c. (refl, moment-most (c .pre))))
+    (λ c κs. record { positive = lit< tt; room = omega (arith, load c ⊗ square c) })
+    (λ c. (c .rounded-up .ensures, rw (c .rounded-up .ensures) (moment-most (c .before .pre)))))

@@ -1,4 +1,4 @@
--- Each callee's equation in turn, and at either direction the choice is the definition's (first-is).
+-- At either direction the choice is the definition's (first-is).
 -- Assumes nothing.
 use Prim.Native.Nat.{ℕ, _≤_}
 use Rattle.numbers.proofs.Bounded.{fits, exactly}
@@ -11,11 +11,7 @@ pub first-of-spec : {M : Type 1} → statement M
 first-of-spec =
     tie.close
     (tie.spec
-    (λ c κs. search needs)
-    (λ c κs. search needs)
     (λ c. search needs)
-    (λ c. fits (frames-most (c .bays2 .ensures .1) (c .before .bays .ensures .1)) tt)
+    (λ c. fits (frames-most (c .pre .y) (c .pre .x)) tt)
     (λ c κs. search needs)
-    (λ c.
-    let a = c .before .before .before .before .args in
-    exactly (λ (r : ℕ). r ≤ 156) (cc (first-is (a .f .now) (a .d))) (first-most (a .f .now) (a .d))))
+    (λ c. exactly (λ (r : ℕ). r ≤ 156) (cc (first-is (c .before .pre) (c .before .args .d))) (first-most (c .before .pre) (c .before .args .d))))

@@ -1,0 +1,165 @@
+-- Limits 2 and 32 over all panels, by the extremes of the two directions (numbers' apart-extremes).
+--     ends-done, least-most     the loop's end, and a bound
+--     apart-is                  the extremes decide
+--     spans-in, shares-in       the spans of a direction, and p or q, in range
+--     raw, shares-of            p or q of every bay, as they are worked out
+--     slender-is, unequal-is    some pair of values apart is some panel that breaks the limit
+--     beamed, beamless          limit 32, by cases of the layout
+-- Assumes nothing.
+use Prim.Native.Nat.{ℕ, _+_, _*_, _≤_, _<_, zero-le}
+use mathlib.Core.Bool.{Bool, true, false, _||_}
+use mathlib.Core.List.{List}
+use mathlib.Core.Path.{_≡_, refl, sym, _∙_}
+use native.Mathlib.Omega.{arith}
+use lib.Dec.{ltb}
+use lib.ListN.{getD}
+use Rattle.numbers.specs.Extremes.{mostOf, leastOf}
+use Rattle.numbers.proofs.Bounded.{_⊗_}
+use Rattle.numbers.proofs.Extremes.{apart-ends, apart-extremes, least-within}
+use Rattle.numbers.proofs.Tests.{until-same}
+use Rattle.plan.specs.declared.ways.Way.{Way}
+use Rattle.plan.specs.declared.ways.Way.the-variants.{X, Y}
+use Rattle.plan.specs.Ways.{across}
+use Rattle.plan.specs.Plan.{bays, span, lastLine}
+use Rattle.floor.specs.Refusal.{refusal}
+use Rattle.floor.proofs.Fair.{fair}
+use Rattle.lines.specs.declared.slab.Slab.{Slab}
+use Rattle.lines.specs.Lines.{pairAlpha, isEverywhere}
+use Rattle.lines.specs.Slabs.{slabOf}
+use Rattle.lines.specs.Rows.{Spans, rowOf, pairAt}
+use Rattle.lines.specs.Asked.{TwoAlphas, Surveyed, Ready}
+use Rattle.lines.proofs.Slabs.{laid-of, bays-of}
+use Rattle.lines.proofs.Filled.{Filled, beside, pair-in, pair-is}
+use Rattle.lines.proofs.Floors.{alpha-bound}
+use Rattle.limits.specs.Limits.{somePair, somePanel, slenderPanel, unequalPanel, unbalanced}
+use Rattle.extremes.specs.declared.Ends.{Ends}
+use Rattle.extremes.specs.Extremes.{apartSome, endsOf, shareOf, Shares}
+use Rattle.extremes.specs.Asked.{Values, Share, Sharing}
+
+-- the same pairs, with tests that answer the same
+pair-same : (n m : ℕ) (p q : ℕ → ℕ → Bool) → ((i j : ℕ) → i < n → j < m → p i j ≡ q i j) → somePair n m p ≡ somePair n m q
+unfolding somePair
+pair-same n m p q h = until-same true m _ _ (λ j l. until-same true n _ _ (λ i k. h i j k l))
+
+or-swap : (a b : Bool) → (a || b) ≡ (b || a)
+or-swap true true = refl
+or-swap true false = refl
+or-swap false true = refl
+or-swap false false = refl
+
+-- ---- of any two lists
+
+module _ {a : List ℕ} {n : ℕ} (known : Values a n) where
+  pub ends-done : {i least most : ℕ} → i ≤ n → n ≤ i → least ≡ leastOf i (λ j. getD a j 0) → most ≡ mostOf i (λ j. getD a j 0)
+      → _≡_ {A = Ends} (record { least = least; most = most }) (endsOf n (λ j. getD a j 0))
+  unfolding endsOf
+  ends-done {i} h l p q = let e : i ≡ n = omega (arith, h, l) in rw (p, q, e)
+
+  pub least-most : {e : Ends} → e ≡ endsOf n (λ j. getD a j 0) → e .least ≤ 57600000000000000
+  unfolding endsOf
+  least-most q = rw q (least-within n _ _ (known .some) (known .most))
+
+pub apart-is : (k : ℕ) {a b : List ℕ} {n m : ℕ} {x y : Ends} {r : Bool} → Values a n → Values b m
+    → x ≡ endsOf n (λ i. getD a i 0) → y ≡ endsOf m (λ i. getD b i 0)
+    → r ≡ (ltb (k * y .least) (x .most) || ltb (k * x .least) (y .most)) → r ≡ apartSome k a n b m
+unfolding apartSome somePair endsOf
+apart-is k {a} {b} {n} {m} p q ex ey e =
+    rw (ex, ey) at e ∙ sym (apart-extremes k n m (λ i. getD a i 0) (λ j. getD b j 0) (p .some) (q .some))
+
+-- ---- of a floor
+
+module _ (f : List ℕ) (e : refusal f ≡ 0) where
+  pub spans-in : (d : Way) {s : List ℕ} {n : ℕ} → Spans f d s → n ≡ bays f d → Values s n
+  spans-in d known q =
+      let b = fair f e .bays-in d in
+      record {
+        some = omega (arith, b);
+        few = omega (arith, b);
+        most = λ i h. rw (known .is i (omega (arith, b))) (omega (arith, fair f e .span-most d i));
+      }
+
+  pair-most : (d : Way) (k : ℕ) → k < lastLine f d → pairAlpha f d k ≤ 400000000
+  unfolding pairAlpha
+  pair-most d k h =
+      omega (
+        arith,
+        alpha-bound f d k (record { accepted = e; line = omega (arith, h) }),
+        alpha-bound f d (k + 1) (record { accepted = e; line = omega (arith, h) }),
+      )
+
+  share-most : (d : Way) (k : ℕ) → k < lastLine f d → shareOf f d k ≤ 57600000000000000
+  unfolding shareOf
+  share-most d k h = pair-most d k h ⊗ (fair f e .span-most (across d) k ⊗ fair f e .span-most (across d) k)
+
+  pub shares-in : (d : Way) {p : List ℕ} {n : ℕ} → Shares f d p → n ≡ lastLine f d → Values p n
+  shares-in d known q =
+      let b = fair f e .bays-in (across d) in
+      record {
+        some = omega (arith, b);
+        few = omega (arith, b);
+        most = λ k h. rw (known .is k (omega (arith, h))) (share-most d k (omega (arith, h)));
+      }
+
+-- p or q as it is worked out of what is at hand
+abbrev pub raw : List ℕ → List ℕ → ℕ → ℕ
+raw a s k = pairAt a k * (getD s k 0 * getD s k 0)
+
+module _ {f : List ℕ} {d : Way} {a s : List ℕ} {n : ℕ} (p : Sharing f d a s n) where
+  below : {k : ℕ} → k < n → k < lastLine f d
+  below h = omega (arith, p .number, h)
+
+  pub inside : {k : ℕ} → k < n → k < 13
+  inside h = omega (arith, below h, fair f (p .accepted) .bays-in (across d))
+
+  pub pair-of : {k : ℕ} → k < n → TwoAlphas a k
+  pair-of h = pair-in (beside (p .alphas) (below h)) (p .accepted) (below h)
+
+  pub share-in : {k x : ℕ} → k < n → x ≤ 400000000 → Share x (getD s k 0)
+  share-in {k} h l = record { pair-most = l; span-most = rw (p .spans .is k (inside h)) (fair f (p .accepted) .span-most (across d) k) }
+
+  pub shares-of : {r : List ℕ} → Filled (raw a s) 0 n r → Shares f d r
+  unfolding shareOf
+  shares-of {r} h =
+      record {
+        is = λ k q. let l : k < n = omega (arith, p .number, q) in
+            cc (h k zero-le l, p .spans .is k (inside l), pair-is (beside (p .alphas) q));
+      }
+
+module _ {f : List ℕ} {slab : Slab} {s a : List (List ℕ)} (known : Ready f slab s a) where
+  abbrev survey : Surveyed f slab s
+  survey = known .surveyed
+
+  pub sharing-x : Sharing f X (rowOf a X) (rowOf s Y) (slab .bays .y)
+  sharing-x =
+      record { accepted = survey .accepted; alphas = known .alphas X; spans = survey .spans Y; number = bays-of f (survey .shared) X .1 }
+
+  pub sharing-y : Sharing f Y (rowOf a Y) (rowOf s X) (slab .bays .x)
+  sharing-y =
+      record { accepted = survey .accepted; alphas = known .alphas Y; spans = survey .spans X; number = bays-of f (survey .shared) Y .1 }
+
+module _ {f : List ℕ} {slab : Slab} {s : List (List ℕ)} (known : Surveyed f slab s) where
+  pub slender-is : {r : Bool} → r ≡ apartSome 2 (rowOf s X) (slab .bays .x) (rowOf s Y) (slab .bays .y) → r ≡ somePanel f (slenderPanel f)
+  unfolding slabOf apartSome slenderPanel
+  slender-is e =
+      e ∙ rw (known .shared) (pair-same (bays f X) (bays f Y) _ _ (λ i j hi hj. rw (
+        known .spans X .is i (omega (arith, hi, fair f (known .accepted) .bays-in X)),
+        known .spans Y .is j (omega (arith, hj, fair f (known .accepted) .bays-in Y)),
+      ) (sym (apart-ends 2 (span f X i) (span f Y j) (omega arith)))))
+
+  unequal-is : {p q : List ℕ} {r : Bool} → Shares f X p → Shares f Y q → r ≡ apartSome 5 q (slab .bays .x) p (slab .bays .y) → r ≡ somePanel f (unequalPanel f)
+  unfolding slabOf apartSome unequalPanel shareOf
+  unequal-is sp sq e =
+      e ∙ rw (known .shared) (pair-same (bays f X) (bays f Y) _ _ (λ i j hi hj.
+      let p = pairAlpha f X j * (span f Y j * span f Y j) in
+      let q = pairAlpha f Y i * (span f X i * span f X i) in
+      rw (sq .is i hi, sp .is j hj) (or-swap (ltb (5 * p) q) (ltb (5 * q) p))))
+
+  module _ {everywhere : Bool} (is : everywhere ≡ isEverywhere (slab .layout)) where
+    pub beamed : {p q : List ℕ} {r : Bool} → everywhere ≡ true → Shares f X p → Shares f Y q → r ≡ apartSome 5 q (slab .bays .x) p (slab .bays .y)
+        → r ≡ unbalanced f
+    unfolding unbalanced
+    beamed t sp sq e = rw (← laid-of f (known .shared), ← is, t) (unequal-is sp sq e)
+
+    pub beamless : everywhere ≡ false → everywhere ≡ unbalanced f
+    unfolding unbalanced
+    beamless t = rw (← laid-of f (known .shared), ← is, t)

@@ -1,0 +1,30 @@
+-- Two lists of values of which some pair lies far apart: limits 2 and 32 ask it of spans, and of p and q, of the two directions.
+-- Assumes nothing.
+use Prim.Native.Nat.{ℕ, _*_, _<_}
+use mathlib.Core.Bool.{Bool}
+use mathlib.Core.List.{List}
+use mathlib.Core.Path.{_≡_}
+use lib.ListN.{getD}
+use Rattle.numbers.specs.Extremes.{apart, mostOf, leastOf}
+use Rattle.plan.specs.declared.ways.Way.{Way}
+use Rattle.plan.specs.Ways.{across}
+use Rattle.plan.specs.Plan.{span, lastLine}
+use Rattle.lines.specs.Lines.{pairAlpha}
+use Rattle.limits.specs.Limits.{somePair}
+use Rattle.extremes.specs.declared.Ends.{Ends}
+
+-- some of the first n of a and some of the first m of b: one exceeds k times the other
+unfoldable pub apartSome : ℕ → List ℕ → ℕ → List ℕ → ℕ → Bool
+apartSome k a n b m = somePair n m (λ i j. apart k (getD a i 0) (getD b j 0))
+
+-- the least and the most of n values
+unfoldable pub endsOf : ℕ → (ℕ → ℕ) → Ends
+endsOf n v = record { least = leastOf n v; most = mostOf n v }
+
+-- p, or q, of the bay k across the lines along d
+unfoldable pub shareOf : List ℕ → Way → ℕ → ℕ
+shareOf f d k = pairAlpha f d k * (span f (across d) k * span f (across d) k)
+
+-- p has that of every bay across the lines along d
+pub record Shares (f : List ℕ) (d : Way) (p : List ℕ) : Type 0 where
+  pub is : (k : ℕ) → k < lastLine f d → getD p k 0 ≡ shareOf f d k

@@ -1,0 +1,94 @@
+// The limits over all panels at once, by the extremes of the two directions: 2 of the spans, 32 of p and q.
+// Of two lists, some pair lies further apart than k times exactly where their extremes do.
+ghost use mathlib.Core.Path.{_≡_};
+ghost use Prim.Native.Nat.{_*_, _≤_};
+ghost use lib.ListN.{getD};
+ghost use Rattle.lines.specs.Asked.{Surveyed, Ready};
+ghost use Rattle.limits.specs.Limits.{somePanel, slenderPanel, unbalanced};
+ghost use Rattle.extremes.specs.Extremes.{endsOf, apartSome, Shares};
+ghost use Rattle.extremes.specs.Asked.{Values, Ratio, Share, Sharing};
+use lines::line::X;
+use lines::line::Y;
+use lines::line::pair_alpha;
+use lines::panel::is_everywhere;
+use lines::slab::Slab;
+use numbers::either;
+use numbers::larger;
+use numbers::smaller;
+use plan::ways::Way;
+
+// The least and the most of some values.
+struct Ends {
+    least: u64,
+    most: u64,
+}
+
+// Of the first n.
+fn ends_of(a: &[u64; 13], n: u32) -> Ends
+    requires { ⌜ Values (now a) n ⌝ }
+    ensures { λ r. ⌜ r ≡ endsOf n (λ i. getD (now (a .entry)) i 0) ⌝ }
+{
+    let mut least = a[0];
+    let mut most: u64 = 0;
+    let mut i: u32 = 0;
+    while i < n {
+        least = smaller(least, a[i as usize]);
+        most = larger(most, a[i as usize]);
+        i += 1;
+    }
+    Ends { least, most }
+}
+
+// Does one of a's first n and one of b's first m exceed k times the other?
+fn apart(a: &[u64; 13], n: u32, b: &[u64; 13], m: u32, k: u64) -> bool
+    requires { ⌜ Values (now a) n ⌝ }
+    requires { ⌜ Values (now b) m ⌝ }
+    requires { ⌜ Ratio k ⌝ }
+    ensures { λ r. ⌜ r ≡ apartSome k (now (a .entry)) n (now (b .entry)) m ⌝ }
+{
+    let x = ends_of(a, n);
+    let y = ends_of(b, m);
+    either(k * y.least < x.most, k * x.least < y.most)
+}
+
+// 2
+pub fn slender(f: &[u8], slab: Slab, spans: &[[u64; 13]; 2]) -> bool
+    requires { ⌜ Surveyed (now f) slab (now spans) ⌝ }
+    ensures { λ r. ⌜ r ≡ somePanel (now (f .entry)) (slenderPanel (now (f .entry))) ⌝ }
+{
+    apart(&spans[X], slab.bays.x, &spans[Y], slab.bays.y, 2)
+}
+
+// p or q of one bay.
+fn share(pair: u64, span: u64) -> u64
+    requires { ⌜ Share pair span ⌝ }
+    ensures { λ r. ⌜ (r ≡ pair * (span * span)) × (r ≤ 57600000000000000) ⌝ }
+{
+    pair * (span * span)
+}
+
+// Of each of the n bays across the lines along d: p where these run along x, q where along y.
+fn shares(f: &[u8], d: Way, a: &[u64; 13], s: &[u64; 13], n: u32) -> [u64; 13]
+    requires { ⌜ Sharing (now f) d (now a) (now s) n ⌝ }
+    ensures { λ r. ⌜ Shares (now (f .entry)) d r ⌝ }
+{
+    let mut p = [0u64; 13];
+    let mut k: u32 = 0;
+    while k < n {
+        let i = k as usize;
+        p[i] = share(pair_alpha(a, k), s[i]);
+        k += 1;
+    }
+    p
+}
+
+// 32
+pub fn unbalanced(f: &[u8], slab: Slab, spans: &[[u64; 13]; 2], alphas: &[[u64; 13]; 2]) -> bool
+    requires { ⌜ Ready (now f) slab (now spans) (now alphas) ⌝ }
+    ensures { λ r. ⌜ r ≡ unbalanced (now (f .entry)) ⌝ }
+{
+    let layout = slab.layout;
+    let p = shares(f, Way::X, &alphas[X], &spans[Y], slab.bays.y);
+    let q = shares(f, Way::Y, &alphas[Y], &spans[X], slab.bays.x);
+    is_everywhere(layout) && apart(&q, slab.bays.x, &p, slab.bays.y, 5)
+}

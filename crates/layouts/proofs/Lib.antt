@@ -1,0 +1,2 @@
+pub mod Beams
+pub mod ByThree

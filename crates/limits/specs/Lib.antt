@@ -1,0 +1,4 @@
+pub mod Limits
+pub mod Meaning
+pub mod Edges
+pub mod Asked

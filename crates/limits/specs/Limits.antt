@@ -1,0 +1,85 @@
+-- "The verdict": "A sum of what is broken; equality always passes."
+-- Assumes nothing.
+use Prim.Native.Nat.{ℕ, _+_, _*_, _-_, min, max}
+use mathlib.Core.Bool.{Bool, cond, _||_, _&&_}
+use mathlib.Core.List.{List}
+use lib.Dec.{ltb}
+use Rattle.numbers.specs.Tests.{some}
+use Rattle.plan.specs.declared.ways.Way.{Way}
+use Rattle.plan.specs.declared.ways.Way.the-variants.{X, Y}
+use Rattle.plan.specs.Plan.{bays, thickness, dead, live, span, offset}
+use Rattle.layouts.specs.Layouts.{layoutOf}
+use Rattle.lines.specs.Lines.{isEverywhere, pairAlpha, panelThickness}
+
+-- some i below nx and j below ny
+unfoldable pub somePair : ℕ → ℕ → (ℕ → ℕ → Bool) → Bool
+somePair nx ny p = some ny (λ j. some nx (λ i. p i j))
+
+-- some panel
+abbrev pub somePanel : List ℕ → (ℕ → ℕ → Bool) → Bool
+somePanel f p = somePair (bays f X) (bays f Y) p
+
+-- 1: "nx or ny below 3"
+unfoldable pub few : List ℕ → Bool
+few f = ltb (bays f X) 3 || ltb (bays f Y) 3
+
+-- 2: "in a panel, longer span > 2·shorter"
+abbrev pub slender : ℕ → ℕ → Bool
+slender x y = ltb (2 * min x y) (max x y)
+
+unfoldable pub slenderPanel : List ℕ → ℕ → ℕ → Bool
+slenderPanel f i j = slender (span f X i) (span f Y j)
+
+-- 4: "for neighbouring spans in a direction, 3(longer − shorter) > longer"
+abbrev pub unlike : ℕ → ℕ → Bool
+unlike a b = ltb (max a b) (3 * (max a b - min a b))
+
+unfoldable pub uneven : List ℕ → Way → Bool
+uneven f d = some (bays f d - 1) (λ k. unlike (span f d k) (span f d (k + 1)))
+
+-- 8: "ten times an offset exceeds a span adjoining that column in its direction"
+-- of n values in a row, the smaller of those that end and that start at k; at either end both are the one that is there
+abbrev pub lesserAt : ℕ → (ℕ → ℕ) → ℕ → ℕ
+lesserAt n v k = min (v (k - 1)) (v (min k (n - 1)))
+
+-- the shorter of the spans along d that adjoin the columns k-th along d
+unfoldable pub adjoining : List ℕ → Way → ℕ → ℕ
+adjoining f d k = lesserAt (bays f d) (span f d) k
+
+-- the column on y line i and x line j is i-th along x and j-th along y
+unfoldable pub astrayColumn : List ℕ → ℕ → ℕ → Bool
+astrayColumn f i j = ltb (adjoining f X i) (10 * offset f X i j) || ltb (adjoining f Y j) (10 * offset f Y i j)
+
+unfoldable pub astray : List ℕ → Bool
+astray f = somePair (bays f X + 1) (bays f Y + 1) (astrayColumn f)
+
+-- 16: "L > 2D"
+unfoldable pub heavy : List ℕ → Bool
+heavy f = ltb (2 * dead f) (live f)
+
+-- 32: "beams everywhere, and in a panel p > 5q or q > 5p, where p = (sum of α of its two x lines)·Y², q = (sum of α of its two y lines)·X²"
+abbrev pub unequal : ℕ → ℕ → Bool
+unequal p q = ltb (5 * q) p || ltb (5 * p) q
+
+unfoldable pub unequalPanel : List ℕ → ℕ → ℕ → Bool
+unequalPanel f i j =
+    unequal (pairAlpha f X j * (span f Y j * span f Y j)) (pairAlpha f Y i * (span f X i * span f X i))
+
+unfoldable pub unbalanced : List ℕ → Bool
+unbalanced f = isEverywhere (layoutOf f) && somePanel f (unequalPanel f)
+
+-- 64: "t below some panel's least thickness"
+unfoldable pub thinPanel : List ℕ → ℕ → ℕ → Bool
+thinPanel f i j = ltb (thickness f) (panelThickness f i j)
+
+-- the sum of what is broken
+abbrev pub bit : Bool → ℕ → ℕ
+bit broken n = cond broken n 0
+
+unfoldable pub sumOf : Bool → Bool → Bool → Bool → Bool → Bool → Bool → ℕ
+sumOf a b c d e g h = bit a 1 + bit b 2 + bit c 4 + bit d 8 + bit e 16 + bit g 32 + bit h 64
+
+unfoldable pub verdict : List ℕ → ℕ
+verdict f =
+    sumOf (few f) (somePanel f (slenderPanel f)) (uneven f X || uneven f Y) (astray f) (heavy f) (unbalanced f)
+    (somePanel f (thinPanel f))

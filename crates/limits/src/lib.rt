@@ -1,0 +1,53 @@
+// The limits on plain numbers, and the sum of what is broken (01, "The verdict").
+ghost use mathlib.Core.Path.{_≡_};
+ghost use mathlib.Core.Bool.{_||_};
+ghost use Prim.Native.Nat.{_*_, _≤_};
+ghost use lib.Dec.{ltb};
+ghost use Rattle.limits.specs.Asked.{Neighbours};
+ghost use Rattle.limits.specs.Limits.{unlike, bit, sumOf};
+use numbers::either;
+use numbers::larger;
+use numbers::smaller;
+
+// 1
+pub fn few(nx: u32, ny: u32) -> bool
+    ensures { λ r. ⌜ r ≡ (ltb nx 3 || ltb ny 3) ⌝ }
+{
+    either(nx < 3, ny < 3)
+}
+
+// 4
+pub fn unlike(a: u64, b: u64) -> bool
+    requires { ⌜ Neighbours a b ⌝ }
+    ensures { λ r. ⌜ r ≡ unlike a b ⌝ }
+{
+    let longer = larger(a, b);
+    let shorter = smaller(a, b);
+    longer < 3 * (longer - shorter)
+}
+
+// 8
+pub fn exceeds(offset: u32, span: u64) -> bool
+    ensures { λ r. ⌜ r ≡ ltb span (10 * offset) ⌝ }
+{
+    span < 10 * (offset as u64)
+}
+
+// 16
+pub fn heavy(dead: u32, live: u32) -> bool
+    ensures { λ r. ⌜ r ≡ ltb (2 * dead) live ⌝ }
+{
+    2 * (dead as u64) < live as u64
+}
+
+fn bit(broken: bool, n: u32) -> u32
+    ensures { λ r. ⌜ (r ≡ bit broken n) × (r ≤ n) ⌝ }
+{
+    if broken { n } else { 0 }
+}
+
+pub fn sum_of(a: bool, b: bool, c: bool, d: bool, e: bool, g: bool, h: bool) -> u32
+    ensures { λ r. ⌜ (r ≡ sumOf a b c d e g h) × (r ≤ 127) ⌝ }
+{
+    bit(a, 1) + bit(b, 2) + bit(c, 4) + bit(d, 8) + bit(e, 16) + bit(g, 32) + bit(h, 64)
+}

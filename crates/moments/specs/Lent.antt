@@ -1,0 +1,11 @@
+-- What a caller lends beside the floor, as one thing: one more buffer is one more field here, and no statement has an argument more.
+-- Assumes nothing.
+use Prim.Native.Nat.{ℕ}
+use mathlib.Core.List.{List}
+
+pub record Lent : Type 0 where
+  pub table : List ℕ
+
+-- the slices that a call takes
+abbrev pub lent : List ℕ → Lent
+lent t = record { table = t }

@@ -1,0 +1,108 @@
+-- What limits 4, 8 and 64 need at a place of an accepted floor.
+--     ..-of                      what a caller has at hand, as the loops ask for it
+--     neighbours, uneven-is      two neighbouring spans, and all of a direction
+--     lesser-is, adjoining-of    the spans that adjoin a column, and those of every column along a direction
+--     column-is, column-few      a column off its place
+--     thin-is                    too thin is not thick enough
+-- Assumes nothing.
+use Prim.Native.Nat.{ℕ, _+_, _-_, _*_, _≤_, _<_, min, max}
+use mathlib.Core.Bool.{Bool, true, not, _||_}
+use mathlib.Core.List.{List}
+use mathlib.Core.Path.{_≡_, refl, sym, _∙_}
+use native.Mathlib.Omega.{arith}
+use lib.Dec.{ltb, leb}
+use lib.ListN.{getD}
+use Rattle.numbers.specs.Tests.{some}
+use Rattle.numbers.proofs.Tests.{until-same, says-lt, says-le, says-not, says-as, says-one}
+use Rattle.plan.specs.declared.ways.Way.{Way}
+use Rattle.plan.specs.declared.ways.Way.the-variants.{X, Y}
+use Rattle.plan.specs.declared.read.Bays.{Bays}
+use Rattle.plan.specs.Ways.{pick}
+use Rattle.plan.specs.Plan.{bays, thickness, span, offset}
+use Rattle.floor.proofs.Fair.{fair}
+use Rattle.lines.specs.declared.slab.Slab.{Slab}
+use Rattle.lines.specs.Lines.{panelThickness}
+use Rattle.lines.specs.Rows.{rowOf}
+use Rattle.lines.specs.Asked.{Surveyed, AtPanel}
+use Rattle.lines.proofs.Slabs.{sized-of, bays-of}
+use Rattle.lines.proofs.Filled.{Filled, at-panel}
+use Rattle.limits.specs.Asked.{Neighbours}
+use Rattle.limits.specs.Limits.{unlike, uneven, lesserAt, adjoining, astrayColumn, thinPanel}
+use Rattle.places.specs.Adjoining.{Adjoining}
+use Rattle.places.specs.Asked.{SpansAlong, EndOf, Columns, AtColumn, PanelRow}
+
+-- ---- the spans along a direction
+
+-- spans k and k + 1 of those at hand are unlike
+abbrev pub unlikeAt : List ℕ → ℕ → Bool
+unlikeAt s k = unlike (getD s k 0) (getD s (k + 1) 0)
+
+module _ {f : List ℕ} {slab : Slab} {s : List (List ℕ)} (p : Surveyed f slab s) where
+  pub along-of : (d : Way) → SpansAlong f d (rowOf s d) (pick d (slab .bays .x) (slab .bays .y))
+  along-of d = record { accepted = p .accepted; spans = p .spans d; number = bays-of f (p .shared) d .0 }
+
+  pub columns-of : {x y : List ℕ} → Adjoining f X x → Adjoining f Y y → Columns f (slab .bays) x y
+  columns-of x y = record { sized = sized-of f (p .shared); along-x = x; along-y = y }
+
+module _ {f : List ℕ} {d : Way} {s : List ℕ} {n : ℕ} (p : SpansAlong f d s n) where
+  pub bays-in : (1 ≤ n) × (n ≤ 12)
+  bays-in = let b = fair f (p .accepted) .bays-in d in (omega (arith, p .number, b), omega (arith, p .number, b))
+
+  span-at : {k : ℕ} → k < 13 → (getD s k 0 ≡ span f d k) × (getD s k 0 ≤ 12000)
+  span-at {k} h = rw (p .spans .is k h) (refl, fair f (p .accepted) .span-most d k)
+
+  pub neighbours : {k : ℕ} → k < n - 1 → Neighbours (getD s k 0) (getD s (k + 1) 0)
+  neighbours {k} h =
+      record { one = span-at {k = k} (omega (arith, h, bays-in)) .1; other = span-at {k = k + 1} (omega (arith, h, bays-in)) .1 }
+
+  -- the same tests, of the spans at hand
+  pub uneven-is : uneven f d ≡ some (n - 1) (unlikeAt s)
+  unfolding uneven
+  uneven-is =
+      rw (← p .number) (until-same true (n - 1) _ _ (λ k h. sym (rw (span-at {k = k} (omega (arith, h, bays-in)) .0, span-at {k = k + 1} (omega (arith, h, bays-in)) .0))))
+
+  pub end-of : {k : ℕ} → k ≤ n → EndOf n k
+  end-of h = record { some = omega (arith, bays-in); few = bays-in .1; place = h }
+
+  -- the spans that adjoin a column are at hand
+  pub adjoining-of : {a : List ℕ} → Filled (lesserAt n (λ i. getD s i 0)) 0 (n + 1) a → Adjoining f d a
+  unfolding adjoining
+  adjoining-of h =
+      record {
+        is = λ k q. let l : k ≤ n = omega (arith, p .number, q) in
+            h k (omega arith) (omega (arith, l)) ∙ rw (← p .number, span-at {k = k - 1} (omega (arith, l, bays-in)) .0, span-at {k = min k (n - 1)} (omega (arith, l, bays-in)) .0);
+      }
+
+-- of line 0 the first of all is the one on its low side
+pub lesser-is : (n k : ℕ) (s : List ℕ) {a b r : ℕ} → a ≡ max k 1 → b ≡ min k (n - 1) → r ≡ min (getD s (a - 1) 0) (getD s b 0)
+    → r ≡ lesserAt n (λ i. getD s i 0) k
+lesser-is n k s {a} {b} ea eb er = let e : a - 1 ≡ k - 1 = omega arith in er ∙ rw (e, eb)
+
+-- ---- a column
+
+pub column-is : {f : List ℕ} {b : Bays} {x y : List ℕ} {i j u v : ℕ} {p q r : Bool} → AtColumn f b x y i j
+    → u ≡ offset f X i j → p ≡ ltb (getD x i 0) (10 * u) → v ≡ offset f Y i j → q ≡ ltb (getD y j 0) (10 * v) → r ≡ (p || q) → r ≡ astrayColumn f i j
+unfolding astrayColumn
+column-is {i = i} {j} at eu ep ev eq er =
+    let c = at .row .columns in
+    cc (c .along-x .is i (omega (arith, at .y-line, c .sized .x)), c .along-y .is j (omega (arith, at .row .x-line, c .sized .y)))
+
+pub column-few : {f : List ℕ} {b : Bays} {x y : List ℕ} {i j : ℕ} → AtColumn f b x y i j → (i ≤ 12) × (j ≤ 12)
+column-few at =
+    let c = at .row .columns in (omega (arith, at .y-line, c .sized .x-most), omega (arith, at .row .x-line, c .sized .y-most))
+
+-- ---- a panel
+
+module _ {f : List ℕ} {slab : Slab} {s a : List (List ℕ)} {j : ℕ} (p : PanelRow f slab s a j) where
+  pub panel-of : {i : ℕ} → i < slab .bays .x → AtPanel f slab s a i j
+  panel-of h =
+      let b = bays-of f (p .ready .surveyed .shared) X in
+      at-panel (p .ready) (omega (arith, b .0, h)) (omega (arith, b .1, p .y-bay))
+
+-- too thin is not thick enough
+pub thin-is : (f : List ℕ) (i j : ℕ) {r b : Bool} → r ≡ leb (panelThickness f i j) (thickness f) → not r ≡ b → thinPanel f i j ≡ b
+unfolding thinPanel
+thin-is f i j e q =
+    says-one (says-lt (thickness f) (panelThickness f i j))
+    (says-as (λ h. omega (arith, h)) (λ h l. omega (arith, h, l)) (says-not (says-le (panelThickness f i j) (thickness f))))
+    ∙ rw (← e) q

@@ -1,0 +1,2 @@
+pub mod Adjoining
+pub mod Asked

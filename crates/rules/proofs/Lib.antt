@@ -1,3 +1,0 @@
-pub mod Widths
-pub mod Stiffness
-pub mod Thinnest

@@ -1,4 +1,0 @@
-pub mod Sizes
-pub mod Sections
-pub mod Lines
-pub mod LeastThickness

@@ -1,0 +1,64 @@
+// A rectangle of concrete, and the beam on an outer line.
+use numbers::larger;
+use numbers::smaller;
+ghost use mathlib.Core.Path.{_≡_};
+ghost use Prim.Native.Nat.{_≤_};
+ghost use Rattle.stiffness.specs.Asked.{Beam, Deeper, Sides};
+ghost use Rattle.stiffness.specs.Sections.{inertia, torsion, flange, edgeTorsion};
+
+pub struct Section {
+    pub width: u64,
+    pub depth: u64,
+}
+
+impl Section {
+    pub fn of(width: u64, depth: u64) -> Self
+        ensures { λ r. ⌜ (r .width ≡ width) × (r .depth ≡ depth) ⌝ }
+    {
+        Self { width, depth }
+    }
+
+    pub fn inertia(self) -> u64
+        requires { ⌜ Sides (self .width) (self .depth) ⌝ }
+        ensures { λ r. ⌜ (r ≡ inertia (self .width) (self .depth)) × (r ≤ 23425600000000) ⌝ }
+    {
+        let b = self.width;
+        let h = self.depth;
+        b * (h * h * h)
+    }
+
+    pub fn torsion(self) -> u64
+        requires { ⌜ Sides (self .width) (self .depth) ⌝ }
+        ensures { λ r. ⌜ (r ≡ torsion (self .width) (self .depth)) × (r ≤ 220000000000000) ⌝ }
+    {
+        let a = self.width;
+        let b = self.depth;
+        let x = smaller(a, b);
+        let y = larger(a, b);
+        x * x * x * (100 * y - 63 * x)
+    }
+}
+
+// The slab's part f of a beam.
+pub fn flange(h: u64, t: u64) -> u64
+    requires { ⌜ Deeper h t ⌝ }
+    ensures { λ r. ⌜ (r ≡ flange h t) × (r ≤ 1200) ⌝ }
+{
+    smaller(h - t, 4 * t)
+}
+
+// T of the beam on an outer line.
+pub fn edge_torsion(beam: Section, t: u64) -> u64
+    requires { ⌜ Beam (beam .width) (beam .depth) t ⌝ }
+    ensures { λ r. ⌜ (r ≡ edgeTorsion (beam .width) (beam .depth) t) × (r ≤ 440000000000000) ⌝ }
+{
+    let b = beam.width;
+    let h = beam.depth;
+    if b == 0 {
+        return 0;
+    }
+    let f = flange(h, t);
+    let one = Section::of(b, h).torsion() + Section::of(f, t).torsion();
+    let two = Section::of(b, h - t).torsion() + Section::of(b + f, t).torsion();
+    larger(one, two)
+}

@@ -1,0 +1,107 @@
+-- The thickness of specs/ is the least that 01 asks, between 90 and 422, and no other number is it.
+-- Each of the three rules asks n ≤ t·d and t ≥ m, so its least t is n/d rounded up; 422 meets each, so none is above it.
+-- Assumes nothing.
+use Prim.Native.Nat.{ℕ, _+_, _*_, _-_, _≤_, _<_, min, max}
+use mathlib.Core.Bool.{Bool, true, false, cond, _&&_}
+use mathlib.Core.List.{[]}
+use mathlib.Core.Path.{_≡_, refl}
+use native.Mathlib.Omega.{arith}
+use lib.Dec.{ltb, eqb, leb, lit≤}
+use lib.ListN.{getD}
+use Rattle.numbers.specs.Least.{Least, least-one}
+use Rattle.numbers.specs.Tests.{until, all}
+use Rattle.numbers.proofs.Bounded.{_⊕_, _⊗_, #}
+use Rattle.numbers.proofs.Rounded.{least-up, least-up-scaled}
+use Rattle.numbers.proofs.Tests.{says-and, says-le, at}
+use Rattle.thickness.specs.declared.Panel.{Panel}
+use Rattle.thickness.specs.declared.PanelPlace.{PanelPlace}
+use Rattle.thickness.specs.declared.PanelPlace.the-variants.{Bare, Edged, Inner}
+use Rattle.thickness.specs.Asked.{PanelSizes}
+use Rattle.thickness.specs.LeastThickness.{divisors, gradeRow, panelColumn, divisor, byStiffness, Stiff, Middling, Tabled, Enough, stiff, middling, tabled, leastThickness, Thinnest}
+
+-- ---- the table
+
+row-below : (fy : ℕ) → gradeRow fy < 3
+row-below fy = told (eqb fy 280) (eqb fy 420)
+  where
+    told : (a b : Bool) → cond a 0 (cond b 1 2) < 3
+    told true b = lit≤ tt
+    told false true = lit≤ tt
+    told false false = lit≤ tt
+
+column-below : (place : PanelPlace) → panelColumn place < 3
+column-below Bare = lit≤ tt
+column-below Edged = lit≤ tt
+column-below Inner = lit≤ tt
+
+-- every entry of the table, tested by computing
+abbrev inTable : ℕ → ℕ → Bool
+inTable i j = let n = getD (getD divisors i []) j 0 in leb 28 n && leb n 36
+
+pub divisor-in : (fy : ℕ) (place : PanelPlace) → (28 ≤ divisor fy place) × (divisor fy place ≤ 36)
+unfolding divisor until
+divisor-in fy place =
+    says-and (says-le 28 _) (says-le _ 36) .holds
+    (at 3 (panelColumn place) (inTable (gradeRow fy)) (at 3 (gradeRow fy) (λ i. all 3 (inTable i)) refl (row-below fy)) (column-below place))
+
+-- ---- the panel
+
+pub panel-of : {fy x y : ℕ} → fy ≤ 520 → (500 ≤ x) × (x ≤ 11800) → (500 ≤ y) × (y ≤ 11800) → PanelSizes fy (min x y) (max x y)
+panel-of g x y = record { grade = g; least = omega arith; order = omega arith; most = omega arith }
+
+pub shorter-most : {fy sn ln : ℕ} → PanelSizes fy sn ln → sn ≤ 11800
+shorter-most p = omega arith
+
+-- ---- the three rules
+
+-- p is the least number with P, and in the range of all thicknesses
+abbrev Found : (ℕ → Type 0) → ℕ → Type 0
+Found P p = Least P p × (90 ≤ p) × (p ≤ 422)
+
+found : {P : ℕ → Type 0} {p : ℕ} → Least P p → 90 ≤ p → P 422 → Found P p
+found l from enough = (l, from, l .first 422 enough)
+
+module _ (fy sn ln S : ℕ) (p : PanelSizes fy sn ln) where
+  least-stiff : Found (Stiff fy sn ln) (stiff fy sn ln)
+  unfolding Stiff stiff
+  least-stiff =
+      let l = least-up-scaled 1400 (36 * sn + 9 * ln) (ln * sn * (1120 + fy)) 90 (omega arith) in
+      found l (l .holds .1) (omega (arith, p .most ⊗ # sn ⊗ (# 1120 ⊕ p .grade)), lit≤ tt)
+
+  least-middling : Found (Middling fy sn ln S) (middling fy sn ln S)
+  unfolding Middling middling
+  least-middling =
+      let l = least-up-scaled 1400 (1440000 * sn + 5 * ln * (S - 8000)) (40000 * ln * sn * (1120 + fy)) 125 (omega arith) in
+      found l (omega (arith, l .holds .1)) (omega (arith, # 40000 ⊗ p .most ⊗ # sn ⊗ (# 1120 ⊕ p .grade)), lit≤ tt)
+
+  least-tabled : (n : ℕ) → 28 ≤ n → Found (Tabled n ln) (tabled n ln)
+  unfolding Tabled tabled
+  least-tabled n h =
+      let l = least-up ln 125 {d = n} (omega arith) in
+      found l (omega (arith, l .holds .1)) (omega arith, lit≤ tt)
+
+-- ---- the case that is taken
+
+by-case : (G : (ℕ → Type 0) → ℕ → Type 0) (everywhere : Bool) (S : ℕ) {P Q R : ℕ → Type 0} {p q r : ℕ} → G P p → G Q q → G R r
+    → G (byStiffness everywhere S P Q R) (byStiffness everywhere S p q r)
+by-case G everywhere S {P} {Q} {R} {p} {q} {r} x y z = told (everywhere && ltb 80000 S) (everywhere && ltb 8000 S)
+  where
+    told : (a b : Bool) → G (cond a P (cond b Q R)) (cond a p (cond b q r))
+    told true b = x
+    told false true = y
+    told false false = z
+
+pub least-thickness : (p : Panel) → PanelSizes (p .fy) (p .sn) (p .ln) → Found (Enough p) (leastThickness p)
+unfolding Enough leastThickness
+least-thickness p h =
+    by-case Found (p .everywhere) (p .s) (least-stiff (p .fy) (p .sn) (p .ln) (p .s) h) (least-middling (p .fy) (p .sn) (p .ln) (p .s) h)
+    (least-tabled (p .fy) (p .sn) (p .ln) (p .s) h (divisor (p .fy) (p .place)) (divisor-in (p .fy) (p .place) .0))
+
+-- the definition's number is the answer, and the answer is one
+pub thinnest : {p : Panel} {r : ℕ} → PanelSizes (p .fy) (p .sn) (p .ln) → r ≡ leastThickness p → Thinnest p r
+thinnest {p} h e =
+    let l = least-thickness p h in
+    record { least = rw e (l .0); is = e; from = rw e (l .1); most = rw e (l .2) }
+
+pub thinnest-one : {p : Panel} {a b : ℕ} → Thinnest p a → Thinnest p b → a ≡ b
+thinnest-one x y = least-one (x .least) (y .least)
