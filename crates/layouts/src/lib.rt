@@ -12,7 +12,6 @@ use numbers::both;
 use numbers::same;
 use plan::read::Bays;
 use plan::read::bays_along;
-use plan::read::bays_of;
 use plan::read::beam_depth;
 use plan::read::beam_width;
 use plan::read::last_line;
@@ -137,19 +136,6 @@ pub fn kept(f: &[u8], b: Bays, rule: Rule) -> bool
         kept_along(f, b, Way::X, rule),
         kept_along(f, b, Way::Y, rule),
     )
-}
-
-pub fn layout_of(f: &[u8]) -> Layout
-    ensures { λ r. ⌜ r ≡ layoutOf (now (f .entry)) ⌝ }
-{
-    let b = bays_of(f);
-    if kept(f, b, Rule::Beams(Layout::Everywhere)) {
-        return Layout::Everywhere;
-    }
-    if kept(f, b, Rule::Beams(Layout::OuterOnly)) {
-        return Layout::OuterOnly;
-    }
-    Layout::Bare
 }
 
 // The layout by three beams: on x line 0, which is outer, and on lines 1, which are outer only where they are last.

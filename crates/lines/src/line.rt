@@ -24,13 +24,14 @@ pub const X: usize = 0;
 
 pub const Y: usize = 1;
 
-pub fn below(f: &[u8], d: Way, l: u32) -> u32
+pub fn below(f: &[u8], bays: Bays, d: Way, l: u32) -> u32
+    requires { ⌜ Sized (now f) bays ⌝ }
     ensures { λ r. ⌜ r ≡ below (now (f .entry)) d l ⌝ }
 {
     if l == 0 {
         0
     } else {
-        plan::span(f, across(d), l - 1)
+        read::span(f, bays, across(d), l - 1)
     }
 }
 

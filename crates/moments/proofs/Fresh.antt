@@ -11,7 +11,7 @@ use lib.ListN.{length}
 use borrow.Author.Tests.{eq-eqb}
 use Rattle.numbers.specs.Records.{written, every}
 use Rattle.numbers.specs.Tests.{Says}
-use Rattle.numbers.proofs.Tests.{says-eq, says-lt, says-and, by-test}
+use Rattle.numbers.proofs.Tests.{says-eq, says-and, by-test}
 use Rattle.numbers.proofs.Written.{length-written, same-written, rewritten}
 use Rattle.plan.specs.declared.ways.Way.{Way}
 use Rattle.plan.specs.declared.ways.Way.the-variants.{X, Y}

@@ -1,18 +1,16 @@
 -- A record that is there has its field's value, and one that is not reads 0.
 --     there, absent               of a floor
---     read, unread                the same for code that has read the bays and a count
+--     read                        the same for code that has read the bays and a count
 --     one-record                  of a kind that stands at the same place in every floor
 --     bays-most                   a floor is small, whatever its first record has
 -- Assumes nothing.
 use Prim.Native.Nat.{ℕ, zero, suc, _+_, _*_, _-_, _<_, _≤_}
 use mathlib.Core.List.{List}
-use mathlib.Core.Path.{_≡_, refl, sym}
+use mathlib.Core.Path.{_≡_}
 use native.Mathlib.Omega.{arith}
 use borrow.Author.Tests.{lt-ltb, le-ltb}
 use Rattle.numbers.proofs.Tests.{by-test, says-le}
 use Rattle.records.specs.Kinds.{countOf, startOf}
-use Rattle.records.specs.Asked.{Kinded}
-use Rattle.records.proofs.Places.{counted-kind}
 use Rattle.plan.specs.declared.ways.Way.{Way}
 use Rattle.plan.specs.declared.ways.Way.the-variants.{X, Y}
 use Rattle.plan.specs.Ways.{pick}
@@ -35,12 +33,6 @@ module _ (f : List ℕ) (k i part nx ny n : ℕ) (ex : nx ≡ bays f X) (ey : ny
 
   pub read : i < n → (s r : ℕ) → s ≡ startOf nx ny k → r ≡ le32 f ((s + i) * 16 + 4 * part) → r ≡ value f k i part
   read h s r es er = cc (there f k i part (omega (arith, counted)))
-
-  pub unread : n ≤ i → 0 ≡ value f k i part
-  unread h = sym (absent f k i part (omega (arith, counted)))
-
-  pub kinded : i < n → nx ≤ 12 → ny ≤ 12 → Kinded nx ny k
-  kinded h hx hy = record { x = hx; y = hy; kind = counted-kind nx ny k i (omega arith) .1 }
 
 -- kinds 1 to 4 have one record each, and nothing before them depends on the bays
 module _ (f : List ℕ) where

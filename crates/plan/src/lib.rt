@@ -6,7 +6,7 @@ pub mod ways;
 ghost use mathlib.Core.Path.{_≡_};
 ghost use Prim.Native.Nat.{_≤_, _<_};
 ghost use Rattle.plan.specs.Asked.{Single};
-ghost use Rattle.plan.specs.Plan.{upToTwelve, bays, value, thickness, strength, grade, dead, live, column, side, span, lastLine, beamWidth, beamDepth};
+ghost use Rattle.plan.specs.Plan.{upToTwelve, bays, value, thickness, strength, grade, dead, live, column, side};
 use fields::A;
 use fields::B;
 use fields::C;
@@ -15,8 +15,6 @@ use records::kinds::COLUMNS;
 use records::kinds::LOADS;
 use records::kinds::MATERIALS;
 use records::kinds::SIZES;
-use records::kinds::count_of;
-use records::kinds::start_of;
 use ways::End;
 use ways::Way;
 
@@ -30,19 +28,6 @@ pub fn bays(f: &[u8], d: Way) -> u32
     ensures { λ r. ⌜ (r ≡ bays (now (f .entry)) d) × (r ≤ 12) ⌝ }
 {
     up_to_twelve(ways::pick(d, u32_at(f, 4), u32_at(f, 8)))
-}
-
-fn value(f: &[u8], k: u32, i: u32, part: u32) -> u32
-    requires { ⌜ part ≤ 3 ⌝ }
-    ensures { λ r. ⌜ r ≡ value (now (f .entry)) k i part ⌝ }
-{
-    let nx = bays(f, Way::X);
-    let ny = bays(f, Way::Y);
-    if i < count_of(nx, ny, k) {
-        u32_at(f, (start_of(nx, ny, k) + i) * 16 + 4 * part)
-    } else {
-        0
-    }
 }
 
 // The one record of kind k, which stands at the same place in every floor.
@@ -93,28 +78,4 @@ pub fn side(f: &[u8], d: Way, e: End) -> u32
     ensures { λ r. ⌜ (r ≡ side (now (f .entry)) d e) × (r < 4) ⌝ }
 {
     single(f, COLUMNS, C) / ways::side_unit(d, e) % 4
-}
-
-pub fn span(f: &[u8], d: Way, i: u32) -> u32
-    ensures { λ r. ⌜ r ≡ span (now (f .entry)) d i ⌝ }
-{
-    value(f, ways::span_kind(d), i, A)
-}
-
-pub fn last_line(f: &[u8], d: Way) -> u32
-    ensures { λ r. ⌜ (r ≡ lastLine (now (f .entry)) d) × (r ≤ 12) ⌝ }
-{
-    bays(f, ways::across(d))
-}
-
-pub fn beam_width(f: &[u8], d: Way, l: u32) -> u32
-    ensures { λ r. ⌜ r ≡ beamWidth (now (f .entry)) d l ⌝ }
-{
-    value(f, ways::line_kind(d), l, A)
-}
-
-pub fn beam_depth(f: &[u8], d: Way, l: u32) -> u32
-    ensures { λ r. ⌜ r ≡ beamDepth (now (f .entry)) d l ⌝ }
-{
-    value(f, ways::line_kind(d), l, B)
 }

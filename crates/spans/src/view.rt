@@ -1,6 +1,5 @@
 // What the record of a span is worked out from, and nothing else: two floors that read alike here have the same record.
 ghost use mathlib.Core.Path.{_≡_};
-ghost use Prim.Native.Nat.{_<_};
 ghost use Rattle.plan.specs.Plan.{span};
 ghost use Rattle.plan.specs.Asked.{Sized};
 ghost use Rattle.lines.specs.Slabs.{slabOf};
@@ -51,7 +50,7 @@ pub fn line_view(f: &[u8], slab: Slab, d: Way, l: u32) -> LineView
     let over = across(d);
     LineView {
         outer: outer_line(read::along(slab.bays, over), l),
-        below: below(f, d, l),
+        below: below(f, slab.bays, d, l),
         above: read::span(f, slab.bays, over, l),
         along: pick(d, slab.cx, slab.cy),
         across: pick(over, slab.cx, slab.cy),

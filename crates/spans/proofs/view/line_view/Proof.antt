@@ -13,7 +13,7 @@ line-view-spec =
     (λ c κs. search needs)
     (λ c κs. search needs)
     (λ c κs. search needs)
-    (λ c κs. search needs)
+    (λ c κs. sized-of _ (c .before .before .before .before .pre))
     (λ c κs. sized-of _ (c .before .before .before .before .before .pre))
     (λ c κs. search needs)
     (λ c κs. search needs)

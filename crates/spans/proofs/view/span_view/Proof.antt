@@ -1,6 +1,5 @@
 -- Each callee's equation in turn.
 -- Assumes nothing.
-use borrow.Author.Needs.{needs}
 use Rattle.lines.proofs.Slabs.{sized-of}
 use Rattle.spans.proofs.view.span_view.Statement.{statement}
 use Rattle.spans.proofs.view.span_view.Tie as tie

@@ -1,7 +1,6 @@
 -- Each callee's equation in turn: at most 156 records and 12 lines of 12 spans.
 -- Assumes nothing.
-use Prim.Native.Nat.{ℕ, _≤_}
-use mathlib.Core.Path.{_≡_}
+use Prim.Native.Nat.{_≤_}
 use Rattle.numbers.proofs.Bounded.{fits, _⊕_, _⊗_}
 use Rattle.tables.proofs.Numbered.{along-most}
 use borrow.Author.Needs.{needs}

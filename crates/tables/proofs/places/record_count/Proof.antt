@@ -1,6 +1,5 @@
 -- With at most 12 bays each way, the frames of a direction have at most 13 · 12 spans (frames-most).
 -- Assumes nothing.
-use Prim.Native.Nat.{_+_, _*_, _≤_}
 use mathlib.Core.Path.{refl}
 use native.Mathlib.Omega.{arith}
 use Rattle.tables.proofs.Numbered.{frames-most}
