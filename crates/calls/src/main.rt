@@ -1,6 +1,6 @@
 // Makes the calls that standard input asks for, as C makes them (crate gandhrumil), and prints what each answers.
 //
-// The input is sessions one after another. A session is, in little-endian words of 4 bytes: the floor's length, then its bytes; how many numbers
+// The input is batches one after another. A batch is, in little-endian words of 4 bytes: the floor's length, then its bytes; how many numbers
 // the table has, then these; how many calls there are, then each call, which is a word and what the call asks for:
 //
 //     1  open
@@ -10,7 +10,7 @@
 //     5  show
 //
 // `show` prints the floor's bytes, then all the numbers of the table, past its records too, each on a line of its own; the others print
-// refusal and value on a line. The program stops at a session without calls, which is what the end of the input reads as, at a length that its
+// refusal and value on a line. The program stops at a batch without calls, which is what the end of the input reads as, at a length that its
 // buffers have no room for, and at a word that is no call.
 ghost use Prim.Native.Nat.{_*_, _≤_};
 ghost use lib.ListN.{length};
@@ -140,8 +140,8 @@ fn with_floor(floor: &mut [u8]) -> bool {
     with_table(floor, &mut table[..n])
 }
 
-// Makes the calls of one session, and answers whether another may follow.
-fn session() -> bool {
+// Makes the calls of one batch, and answers whether another may follow.
+fn batch() -> bool {
     let mut floor = [0u8; LONGEST_FLOOR];
     let n = word() as usize;
     if n > LONGEST_FLOOR {
@@ -152,7 +152,7 @@ fn session() -> bool {
 
 fn main() {
     let mut turns = u64::MAX;
-    while turns > 0 && session() {
+    while turns > 0 && batch() {
         turns -= 1;
     }
 }

@@ -1,30 +1,30 @@
-//! Sessions of what is described one by one: floors and changes that each show one thing, runs of changes, steel queries.
+//! Batches of what is described one by one: floors and changes that each show one thing, runs of changes, steel queries.
 
-use crate::stream::{Call, Session, LONGEST_TABLE};
+use crate::stream::{Batch, Call, LONGEST_TABLE};
 use cases::queries;
 use cases::refusals::{self, Case};
 use cases::runs::{self, Run};
 use gandhrumil::Query;
 
-fn of_case(case: Case) -> Session {
+fn of_case(case: Case) -> Batch {
     // As many numbers as any floor of that length asks for, and more.
     let table = vec![7; LONGEST_TABLE.min(2 * case.floor.len())];
-    let mut session = Session::new(&case.floor, &table);
-    session.make(case.change.map_or(Call::Open, Call::Change));
-    session.show();
-    session
+    let mut batch = Batch::new(&case.floor, &table);
+    batch.make(case.change.map_or(Call::Open, Call::Change));
+    batch.show();
+    batch
 }
 
-fn of_run(run: Run) -> Session {
-    let mut session = Session::new(&run.floor, &run.table);
+fn of_run(run: Run) -> Batch {
+    let mut batch = Batch::new(&run.floor, &run.table);
     if run.opens {
-        session.make(Call::Open);
+        batch.make(Call::Open);
     }
     for change in run.changes {
-        session.make(Call::Change(change));
+        batch.make(Call::Change(change));
     }
-    session.show();
-    session
+    batch.show();
+    batch
 }
 
 fn of_query(query: reference::steel::Query) -> Call {
@@ -32,8 +32,8 @@ fn of_query(query: reference::steel::Query) -> Call {
     Call::Steel(Query { m, b, t, d, fc, fy })
 }
 
-pub fn sessions() -> Vec<Session> {
-    let mut queries_alone = Session::new(&[], &[]);
+pub fn batches() -> Vec<Batch> {
+    let mut queries_alone = Batch::new(&[], &[]);
     for given in queries::all() {
         queries_alone.make(of_query(given.query));
     }

@@ -1,6 +1,6 @@
-//! A few sessions that are kept with the program, which is run on them wherever it is proved.
+//! A few batches that are kept with the program, which is run on them wherever it is proved.
 
-use crate::stream::{Call, Session};
+use crate::stream::{Batch, Call};
 use floor::{record, Floor};
 use gandhrumil::Query;
 
@@ -15,19 +15,19 @@ fn query(m: u64) -> Call {
     Call::Steel(Query { m, b, t, d, fc, fy })
 }
 
-fn session(floor: &[u8], table: &[u32], calls: &[Call]) -> Session {
-    let mut session = Session::new(floor, table);
+fn batch(floor: &[u8], table: &[u32], calls: &[Call]) -> Batch {
+    let mut batch = Batch::new(floor, table);
     for call in calls {
-        session.make(call.clone());
+        batch.make(call.clone());
     }
-    session
+    batch
 }
 
 /// Opened, an x span changed, and changes that are refused: a span out of range, and half a record.
-fn clear_floor() -> Session {
+fn clear_floor() -> Batch {
     let floor = Floor::clear(3, 3).bytes();
     let span = |length| record(5, 1, [length, 0, 0]);
-    let mut session = session(
+    let mut batch = batch(
         &floor,
         &lent_table(&floor),
         &[
@@ -39,21 +39,21 @@ fn clear_floor() -> Session {
             Call::Panel(3, 0),
         ],
     );
-    session.show();
-    session
+    batch.show();
+    batch
 }
 
 /// Refused 1, and 8 for a table that is a number short. Neither writes.
-fn refused_floors() -> [Session; 2] {
+fn refused_floors() -> [Batch; 2] {
     let floor = Floor::clear(3, 3).bytes();
     let short = &lent_table(&floor)[6..];
     [
-        session(
+        batch(
             &floor[..40],
             &[7, 8],
             &[Call::Open, Call::Change(vec![]), Call::Panel(0, 0)],
         ),
-        session(
+        batch(
             &floor,
             short,
             &[Call::Open, Call::Change(record(5, 1, [5_980, 0, 0]))],
@@ -61,9 +61,9 @@ fn refused_floors() -> [Session; 2] {
     ]
 }
 
-pub fn sessions() -> Vec<Session> {
+pub fn batches() -> Vec<Batch> {
     let [mut one, other] = refused_floors();
     one.show();
     let queries = [2_195_000, 0, 20_000_000, 2_000_000_001].map(query);
-    vec![clear_floor(), one, other, session(&[], &[], &queries)]
+    vec![clear_floor(), one, other, batch(&[], &[], &queries)]
 }

@@ -8,26 +8,26 @@ mod stream;
 use cases::program::{first_difference, printed};
 use differ::floors::flips;
 use differ::{floors, runs, steel};
-use recording::sessions;
+use recording::batches;
 use std::collections::BTreeSet;
 use std::fs;
 use std::path::{Path, PathBuf};
-use stream::{Call, Session, LONGEST_CHANGE, LONGEST_FLOOR, LONGEST_TABLE};
+use stream::{Batch, Call, LONGEST_CHANGE, LONGEST_FLOOR, LONGEST_TABLE};
 
-fn stdin(sessions: &[Session]) -> Vec<u8> {
-    sessions.iter().flat_map(Session::stdin).collect()
+fn stdin(batches: &[Batch]) -> Vec<u8> {
+    batches.iter().flat_map(Batch::stdin).collect()
 }
 
 /// Holds what the program prints against the right lines, call by call.
-fn compare(sessions: &[Session]) {
-    let printed = printed("calls", &stdin(sessions));
+fn compare(batches: &[Batch]) {
+    let printed = printed("calls", &stdin(batches));
     let mut lines = printed.split_inclusive('\n');
-    for (number, session) in sessions.iter().enumerate() {
-        for (place, made) in session.made.iter().enumerate() {
+    for (number, batch) in batches.iter().enumerate() {
+        for (place, made) in batch.made.iter().enumerate() {
             let taken: String = lines.by_ref().take(made.lines.len()).collect();
             if let Some(difference) = first_difference(&made.text(), &taken) {
                 let call = &made.call;
-                panic!("session {number}, call {place}, {call:?}: {difference}");
+                panic!("batch {number}, call {place}, {call:?}: {difference}");
             }
         }
     }
@@ -35,8 +35,8 @@ fn compare(sessions: &[Session]) {
 }
 
 /// The refusals that the calls of one kind got.
-fn refusals(sessions: &[Session], kind: fn(&Call) -> bool) -> BTreeSet<u32> {
-    let made = sessions.iter().flat_map(|session| &session.made);
+fn refusals(batches: &[Batch], kind: fn(&Call) -> bool) -> BTreeSet<u32> {
+    let made = batches.iter().flat_map(|batch| &batch.made);
     let of_kind = made.filter(|made| kind(&made.call));
     let refusal = |line: &str| line.split(' ').next().unwrap().parse().unwrap();
     of_kind.map(|made| refusal(&made.lines[0])).collect()
@@ -60,43 +60,43 @@ fn of_steel(call: &Call) -> bool {
 
 #[test]
 fn floors_and_panels() {
-    let sessions = sessions("floors", 40, |case, _| floors::case(case));
-    assert_eq!(refusals(&sessions, opening), (0..=8).collect());
-    assert!(refusals(&sessions, of_panel).contains(&10));
-    compare(&sessions);
+    let batches = batches("floors", 40, |case, _| floors::case(case));
+    assert_eq!(refusals(&batches, opening), (0..=8).collect());
+    assert!(refusals(&batches, of_panel).contains(&10));
+    compare(&batches);
 }
 
 #[test]
 fn floors_with_every_byte_flipped() {
-    compare(&sessions("flipped", 1, flips::case));
+    compare(&batches("flipped", 1, flips::case));
 }
 
 #[test]
 fn changes() {
-    let sessions = sessions("changes", 20, |case, _| runs::case(case));
-    assert!(refusals(&sessions, changing).is_superset(&BTreeSet::from([0, 5, 6, 7, 8, 9])));
-    compare(&sessions);
+    let batches = batches("changes", 20, |case, _| runs::case(case));
+    assert!(refusals(&batches, changing).is_superset(&BTreeSet::from([0, 5, 6, 7, 8, 9])));
+    compare(&batches);
 }
 
 #[test]
 fn what_is_described() {
-    let sessions = described::sessions();
-    assert!(sessions.iter().all(Session::fits));
-    assert_eq!(refusals(&sessions, opening), (0..=8).collect());
-    assert_eq!(refusals(&sessions, changing), (0..=9).collect());
-    compare(&sessions);
+    let batches = described::batches();
+    assert!(batches.iter().all(Batch::fits));
+    assert_eq!(refusals(&batches, opening), (0..=8).collect());
+    assert_eq!(refusals(&batches, changing), (0..=9).collect());
+    compare(&batches);
 }
 
 #[test]
 fn steel_queries() {
-    let sessions = sessions("steel queries", 8, |case, _| steel::case(case));
-    assert_eq!(refusals(&sessions, of_steel), BTreeSet::from([0, 11, 12]));
-    compare(&sessions);
+    let batches = batches("steel queries", 8, |case, _| steel::case(case));
+    assert_eq!(refusals(&batches, of_steel), BTreeSet::from([0, 11, 12]));
+    compare(&batches);
 }
 
-/// A session of one steel query, which follows a fault.
-fn next_session() -> Vec<u8> {
-    kept::sessions().last().unwrap().stdin()
+/// A batch of one steel query, which follows a fault.
+fn next_batch() -> Vec<u8> {
+    kept::batches().last().unwrap().stdin()
 }
 
 fn words(numbers: &[usize]) -> Vec<u8> {
@@ -107,29 +107,29 @@ fn words(numbers: &[usize]) -> Vec<u8> {
 /// Buffers are filled whole, and what they have no room for is not read past.
 #[test]
 fn lengths_to_the_end_of_the_buffers() {
-    let mut session = Session::new(&[7; LONGEST_FLOOR], &[8; LONGEST_TABLE]);
-    session.make(Call::Change(vec![9; LONGEST_CHANGE]));
-    session.show();
-    compare(&[session]);
+    let mut batch = Batch::new(&[7; LONGEST_FLOOR], &[8; LONGEST_TABLE]);
+    batch.make(Call::Change(vec![9; LONGEST_CHANGE]));
+    batch.show();
+    compare(&[batch]);
     for stopped in [
         words(&[LONGEST_FLOOR + 1]),
         words(&[0, LONGEST_TABLE + 1]),
         words(&[0, 0, 1, 2, LONGEST_CHANGE + 1]),
         words(&[usize::MAX]),
     ] {
-        let stdin = [stopped, next_session()].concat();
+        let stdin = [stopped, next_batch()].concat();
         assert_eq!(printed("calls", &stdin), "");
     }
 }
 
-/// At a session without calls and at words that are no call. An input that ends goes on with zeros.
+/// At a batch without calls and at words that are no call. An input that ends goes on with zeros.
 #[test]
 fn where_it_stops() {
     for stopped in [[0, 0, 0, 0], [0, 0, 1, 0], [0, 0, 1, 6]] {
-        let stdin = [words(&stopped), next_session()].concat();
+        let stdin = [words(&stopped), next_batch()].concat();
         assert_eq!(printed("calls", &stdin), "");
     }
-    let stdin = next_session();
+    let stdin = next_batch();
     for end in [0, 2, 12, 13, 16, 30, stdin.len() - 60, stdin.len() - 1] {
         let (cut, zeros) = (&stdin[..end], [0; 64]);
         assert_eq!(
@@ -146,9 +146,9 @@ fn kept(name: &str) -> PathBuf {
 }
 
 fn kept_contents() -> (Vec<u8>, String) {
-    let sessions = kept::sessions();
-    let stdout = sessions.iter().map(Session::stdout).collect();
-    (stdin(&sessions), stdout)
+    let batches = kept::batches();
+    let stdout = batches.iter().map(Batch::stdout).collect();
+    (stdin(&batches), stdout)
 }
 
 #[test]

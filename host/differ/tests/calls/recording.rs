@@ -1,6 +1,6 @@
 //! The calls that the cases of `differ` make, answered by the reference and recorded.
 
-use crate::stream::{Call, Session};
+use crate::stream::{Batch, Call};
 use differ::case::Case;
 use differ::job::{Calls, Job};
 use differ::tally::Tally;
@@ -8,7 +8,7 @@ use gandhrumil::{Answer, Query};
 use std::cell::RefCell;
 
 thread_local! {
-    static SESSIONS: RefCell<Vec<Session>> = const { RefCell::new(Vec::new()) };
+    static SESSIONS: RefCell<Vec<Batch>> = const { RefCell::new(Vec::new()) };
 }
 
 const RECORDING: Calls = Calls {
@@ -18,12 +18,12 @@ const RECORDING: Calls = Calls {
     steel,
 };
 
-/// The sessions of some cases. A case is told its number.
-pub fn sessions(
+/// The batches of some cases. A case is told its number.
+pub fn batches(
     part: &str,
     cases: u64,
     case: fn(&mut Case, u64) -> Result<(), String>,
-) -> Vec<Session> {
+) -> Vec<Batch> {
     let job = Job {
         calls: RECORDING,
         ..Job::of_the_library(1)
@@ -42,35 +42,35 @@ pub fn sessions(
     SESSIONS.take()
 }
 
-/// Makes a call in the last session where that goes on from there, and in a new one where it does not.
-fn in_session<T>(
-    goes_on: impl Fn(&Session) -> bool,
-    new: impl Fn() -> Session,
-    call: impl FnOnce(&mut Session) -> T,
+/// Makes a call in the last batch where that goes on from there, and in a new one where it does not.
+fn in_batch<T>(
+    goes_on: impl Fn(&Batch) -> bool,
+    new: impl Fn() -> Batch,
+    call: impl FnOnce(&mut Batch) -> T,
 ) -> T {
-    SESSIONS.with_borrow_mut(|sessions| {
-        if !sessions.last().is_some_and(goes_on) {
-            let mut session = new();
-            if !session.fits() {
+    SESSIONS.with_borrow_mut(|batches| {
+        if !batches.last().is_some_and(goes_on) {
+            let mut batch = new();
+            if !batch.fits() {
                 // Answered, and not recorded.
-                return call(&mut session);
+                return call(&mut batch);
             }
-            sessions.push(session);
+            batches.push(batch);
         }
-        call(sessions.last_mut().expect("a session"))
+        call(batches.last_mut().expect("a batch"))
     })
 }
 
 /// After it floor and table are looked at whole.
 fn on_floor_and_table(floor: &[u8], table: &mut [u32], call: Call) -> (Answer, Vec<u8>) {
     let lent: &[u32] = table;
-    let (answer, floor_after, table_after) = in_session(
-        |session| session.floor == floor && session.table == lent,
-        || Session::new(floor, lent),
-        |session| {
-            let answer = session.make(call);
-            session.show();
-            (answer, session.floor.clone(), session.table.clone())
+    let (answer, floor_after, table_after) = in_batch(
+        |batch| batch.floor == floor && batch.table == lent,
+        || Batch::new(floor, lent),
+        |batch| {
+            let answer = batch.make(call);
+            batch.show();
+            (answer, batch.floor.clone(), batch.table.clone())
         },
     );
     table.copy_from_slice(&table_after);
@@ -88,17 +88,17 @@ fn change(floor: &mut [u8], table: &mut [u32], change: &[u8]) -> Answer {
 }
 
 fn panel(floor: &[u8], x: u64, y: u64) -> Answer {
-    in_session(
-        |session| session.floor == floor,
-        || Session::new(floor, &[]),
-        |session| session.make(Call::Panel(x, y)),
+    in_batch(
+        |batch| batch.floor == floor,
+        || Batch::new(floor, &[]),
+        |batch| batch.make(Call::Panel(x, y)),
     )
 }
 
 fn steel(query: Query) -> Answer {
-    in_session(
+    in_batch(
         |_| true,
-        || Session::new(&[], &[]),
-        |session| session.make(Call::Steel(query)),
+        || Batch::new(&[], &[]),
+        |batch| batch.make(Call::Steel(query)),
     )
 }

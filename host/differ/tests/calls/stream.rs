@@ -1,4 +1,4 @@
-//! Sessions of calls as the program reads them (`crates/calls/src/main.rt` has the form), with the lines that it has to print.
+//! Batches of calls as the program reads them (`crates/calls/src/main.rt` has the form), with the lines that it has to print.
 
 use gandhrumil::{Answer, Query};
 use reference::span::NUMBERS;
@@ -25,7 +25,7 @@ pub struct Made {
 }
 
 /// A floor with the table lent to it, and the calls made on them.
-pub struct Session {
+pub struct Batch {
     lent_floor: Vec<u8>,
     lent_table: Vec<u32>,
     /// As the calls left them.
@@ -62,9 +62,9 @@ impl Made {
     }
 }
 
-impl Session {
-    pub fn new(floor: &[u8], table: &[u32]) -> Session {
-        Session {
+impl Batch {
+    pub fn new(floor: &[u8], table: &[u32]) -> Batch {
+        Batch {
             lent_floor: floor.to_vec(),
             lent_table: table.to_vec(),
             floor: floor.to_vec(),

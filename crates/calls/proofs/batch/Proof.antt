@@ -3,11 +3,11 @@
 use lib.ListN.{length-take}
 use native.Mathlib.Omega.{arith}
 use borrow.Author.Needs.{needs}
-use Rattle.calls.proofs.session.Statement.{statement}
-use Rattle.calls.proofs.session.Tie as tie
+use Rattle.calls.proofs.batch.Statement.{statement}
+use Rattle.calls.proofs.batch.Tie as tie
 
-pub session-spec : {M : Type 1} → statement M
-session-spec =
+pub batch-spec : {M : Type 1} → statement M
+batch-spec =
     tie.close
     (tie.spec
     (λ c κs. search needs)
