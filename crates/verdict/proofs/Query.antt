@@ -1,32 +1,41 @@
 -- The panel query: a panel that was asked for and is there, with its bays at hand.
 -- Assumes nothing.
-use Prim.Native.Nat.{ℕ, _≤_, _<_}
-use mathlib.Core.Bool.{Bool, false, not}
+use Prim.Native.Nat.{ℕ, _≤_}
 use mathlib.Core.List.{List}
-use mathlib.Core.Path.{_≡_, sym, _∙_}
+use mathlib.Core.Path.{_≡_, sym}
 use native.Mathlib.Omega.{arith}
-use borrow.Author.Tests.{not-false}
 use Rattle.numbers.specs.Tests.{Says}
+use Rattle.numbers.specs.Chains.{Holds, Sound}
+use Rattle.numbers.specs.Chains.Sound.{done, _then_}
+use Rattle.numbers.proofs.Chains.{success, both-zero, _before_}
 use Rattle.numbers.proofs.Tests.{says-lt, says-and}
 use Rattle.plan.specs.declared.ways.Way.the-variants.{X, Y}
 use Rattle.plan.specs.Plan.{bays}
 use Rattle.plan.proofs.Reading.{bays-most}
 use Rattle.floor.specs.Refusal.{refusal}
+use Rattle.floor.proofs.Meaning.{sound-floor}
 use Rattle.lines.specs.declared.slab.Slab.{Slab}
 use Rattle.lines.specs.Slabs.{slabOf}
 use Rattle.lines.specs.Rows.{AllSpans}
 use Rattle.lines.specs.Asked.{PanelAtHand}
 use Rattle.verdict.specs.Asked.{InPanel}
-use Rattle.verdict.specs.Answers.{hasPanel}
+use Rattle.verdict.specs.Answers.{hasPanel, HasPanel, panelChecks, panelRefusal}
 
-pub says-panel : (f : List ℕ) (x y : ℕ) → Says (hasPanel f x y) ((x < bays f X) × (y < bays f Y))
+pub says-panel : (f : List ℕ) (x y : ℕ) → Says (hasPanel f x y) (HasPanel f x y)
 unfolding hasPanel
 says-panel f x y = says-and (says-lt x (bays f X)) (says-lt y (bays f Y))
 
-pub in-panel : (f : List ℕ) {x y n : ℕ} {there : Bool} → n ≡ refusal f → n ≡ 0 → there ≡ hasPanel f x y → not there ≡ false → InPanel f x y
-in-panel f {x} {y} {n} {there} e z h t =
-    let at = says-panel f x y .holds (sym h ∙ not-false there t) in
-    record { accepted = sym e ∙ z; x-bay = at .0; y-bay = at .1 }
+pub sound-panel : (f : List ℕ) (x y : ℕ) → Sound (panelChecks f x y)
+unfolding panelChecks
+sound-panel f x y = sound-floor f before says-panel f x y then done
+
+-- "success is 0"
+pub in-panel : (f : List ℕ) {x y : ℕ} → 0 ≡ panelRefusal f x y → InPanel f x y
+unfolding panelRefusal panelChecks refusal Holds
+in-panel f {x} {y} e =
+    let h = both-zero (sound-floor f) _ (sym e) in
+    let at = success (says-panel f x y then done) .0 (h .1) .0 in
+    record { accepted = h .0; x-bay = at .0; y-bay = at .1 }
 
 module _ {f : List ℕ} {x y : ℕ} (p : InPanel f x y) where
   pub bays-few : (x ≤ 12) × (y ≤ 12)

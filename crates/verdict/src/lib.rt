@@ -6,8 +6,10 @@ ghost use Rattle.lines.specs.Lines.{panelThickness};
 ghost use Rattle.lines.specs.Asked.{Ready};
 ghost use Rattle.limits.specs.Limits.{verdict};
 ghost use Rattle.verdict.specs.Asked.{InPanel};
-ghost use Rattle.verdict.specs.Answers.{hasPanel, panelOf};
+ghost use Rattle.verdict.specs.Answers.{hasPanel, panelRefusal, panelOf};
 use answers::Answer;
+use answers::refused_query;
+use answers::success;
 use extremes::slender;
 use extremes::unbalanced;
 use limits::few;
@@ -77,26 +79,27 @@ fn least_of(f: &[u8], x: u64, y: u64) -> u32
     panel_thickness(f, slab, &s, &a, i, j) as u32
 }
 
+// 1 to 7, then 10.
+fn panel_refusal(f: &[u8], x: u64, y: u64) -> u32
+    ensures { λ r. ⌜ r ≡ panelRefusal (now (f .entry)) x y ⌝ }
+{
+    let number = floor::refusal::refusal(f);
+    if number != 0 {
+        return number;
+    }
+    if !has_panel(f, x, y) {
+        return 10;
+    }
+    0
+}
+
 // The least thickness, in mm, of the panel of x bay x and y bay y.
 pub fn panel(f: &[u8], x: u64, y: u64) -> Answer
     ensures { λ r. ⌜ r ≡ panelOf (now (f .entry)) x y ⌝ }
 {
-    let number = floor::refusal::refusal(f);
+    let number = panel_refusal(f, x, y);
     if number != 0 {
-        return Answer {
-            refusal: number,
-            value: 0,
-        };
+        return refused_query(number);
     }
-    if !has_panel(f, x, y) {
-        return Answer {
-            refusal: 10,
-            value: 0,
-        };
-    }
-    let least = least_of(f, x, y);
-    Answer {
-        refusal: 0,
-        value: least,
-    }
+    success(least_of(f, x, y))
 }

@@ -1,7 +1,7 @@
--- By cases of the refusal, then of the panel.
+-- Refused, or the panel is there and its least thickness is answered.
 -- Assumes nothing.
-use mathlib.Core.Path.{ap}
-use borrow.Author.Tests.{eq-eqb, ne-eqb, not-true, not-false}
+use mathlib.Core.Path.{ap, sym, _∙_}
+use borrow.Author.Tests.{eq-eqb, ne-eqb}
 use borrow.Author.Needs.{needs}
 use Rattle.answers.specs.Answers.{answer}
 use Rattle.verdict.specs.Answers.{panelOf}
@@ -15,8 +15,8 @@ panel-spec =
     tie.close
     (tie.spec
     (λ c κs. search needs)
-    (λ c. rw (← c .before .refusal .ensures, ne-eqb _ _ (c .if1 .taken)))
     (λ c κs. search needs)
-    (λ c. rw (← c .before .before .before .refusal .ensures, eq-eqb _ _ (c .before .before .if1 .left), ← c .before .has-panel .ensures, not-true (c .before .has-panel .result) (c .if2 .taken)))
-    (λ c κs. in-panel _ (c .before .before .before .refusal .ensures) (c .before .before .if1 .left) (c .before .has-panel .ensures) (c .if2 .left))
-    (λ c. rw (← c .before .before .before .before .refusal .ensures, eq-eqb _ _ (c .before .before .before .if1 .left), ← c .before .before .has-panel .ensures, not-false (c .before .before .has-panel .result) (c .before .if2 .left)) (ap (answer 0) (c .least-of .ensures))))
+    (λ c. rw (← c .before .before .panel-refusal .ensures, ne-eqb _ _ (c .before .if1 .taken)) (c .refused-query .ensures))
+    (λ c κs. in-panel _ (sym (c .if1 .left) ∙ c .before .panel-refusal .ensures))
+    (λ c κs. search needs)
+    (λ c. rw (← c .before .before .before .panel-refusal .ensures, eq-eqb _ _ (c .before .before .if1 .left)) (c .success .ensures ∙ ap (answer 0) (c .before .least-of .ensures))))
