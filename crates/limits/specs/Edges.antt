@@ -1,11 +1,9 @@
 -- "Equality always passes", and the figures of 01 for it: "Neighbours 6,000 and 4,000 pass, 3,980 breaks. Offset 600 on 6,000 passes,
 -- 601 breaks. L = 2D passes." What a limit adds to the verdict at its edge, and one step past it.
 -- Assumes nothing.
-use Prim.Native.Nat.{_*_}
 use mathlib.Core.List.{List, [], _∷_}
-use lib.Dec.{ltb}
 use Rattle.numbers.specs.Figures.{Figure, figure}
-use Rattle.limits.specs.Limits.{slender, unlike, unequal, bit}
+use Rattle.limits.specs.Limits.{slender, unlike, exceeds, overloaded, unequal, thinner, bit}
 
 abbrev pub edges : List Figure
 edges =
@@ -15,14 +13,14 @@ edges =
     ∷ figure "4: neighbours 6,000 and 4,000" (bit (unlike 6000 4000) 4) 0
     ∷ figure "4: neighbours 4,000 and 6,000" (bit (unlike 4000 6000) 4) 0
     ∷ figure "4: neighbours 6,000 and 3,980" (bit (unlike 6000 3980) 4) 4
-    ∷ figure "8: offset 600 on 6,000" (bit (ltb 6000 (10 * 600)) 8) 0
-    ∷ figure "8: offset 601 on 6,000" (bit (ltb 6000 (10 * 601)) 8) 8
-    ∷ figure "16: D 5,000, L 10,000" (bit (ltb (2 * 5000) 10000) 16) 0
-    ∷ figure "16: D 5,000, L 10,001" (bit (ltb (2 * 5000) 10001) 16) 16
+    ∷ figure "8: offset 600 on 6,000" (bit (exceeds 600 6000) 8) 0
+    ∷ figure "8: offset 601 on 6,000" (bit (exceeds 601 6000) 8) 8
+    ∷ figure "16: D 5,000, L 10,000" (bit (overloaded 5000 10000) 16) 0
+    ∷ figure "16: D 5,000, L 10,001" (bit (overloaded 5000 10001) 16) 16
     ∷ figure "32: p = 5q" (bit (unequal 50000 10000) 32) 0
     ∷ figure "32: q = 5p" (bit (unequal 10000 50000) 32) 0
     ∷ figure "32: p = 5q + 1" (bit (unequal 50001 10000) 32) 32
     ∷ figure "32: q = 5p + 1" (bit (unequal 10000 50001) 32) 32
-    ∷ figure "64: t equal to a panel's least" (bit (ltb 147 147) 64) 0
-    ∷ figure "64: t one below it" (bit (ltb 146 147) 64) 64
+    ∷ figure "64: t equal to a panel's least" (bit (thinner 147 147) 64) 0
+    ∷ figure "64: t one below it" (bit (thinner 146 147) 64) 64
     ∷ []

@@ -38,6 +38,9 @@ unfoldable pub uneven : List ℕ → Way → Bool
 uneven f d = some (bays f d - 1) (λ k. unlike (span f d k) (span f d (k + 1)))
 
 -- 8: "ten times an offset exceeds a span adjoining that column in its direction"
+abbrev pub exceeds : ℕ → ℕ → Bool
+exceeds offset span = ltb span (10 * offset)
+
 -- of n values in a row, the smaller of those that end and that start at k; at either end both are the one that is there
 abbrev pub lesserAt : ℕ → (ℕ → ℕ) → ℕ → ℕ
 lesserAt n v k = min (v (k - 1)) (v (min k (n - 1)))
@@ -48,14 +51,17 @@ adjoining f d k = lesserAt (bays f d) (span f d) k
 
 -- the column on y line i and x line j is i-th along x and j-th along y
 unfoldable pub astrayColumn : List ℕ → ℕ → ℕ → Bool
-astrayColumn f i j = ltb (adjoining f X i) (10 * offset f X i j) || ltb (adjoining f Y j) (10 * offset f Y i j)
+astrayColumn f i j = exceeds (offset f X i j) (adjoining f X i) || exceeds (offset f Y i j) (adjoining f Y j)
 
 unfoldable pub astray : List ℕ → Bool
 astray f = somePair (bays f X + 1) (bays f Y + 1) (astrayColumn f)
 
 -- 16: "L > 2D"
+abbrev pub overloaded : ℕ → ℕ → Bool
+overloaded D L = ltb (2 * D) L
+
 unfoldable pub heavy : List ℕ → Bool
-heavy f = ltb (2 * dead f) (live f)
+heavy f = overloaded (dead f) (live f)
 
 -- 32: "beams everywhere, and in a panel p > 5q or q > 5p, where p = (sum of α of its two x lines)·Y², q = (sum of α of its two y lines)·X²"
 abbrev pub unequal : ℕ → ℕ → Bool
@@ -69,8 +75,11 @@ unfoldable pub unbalanced : List ℕ → Bool
 unbalanced f = isEverywhere (layoutOf f) && somePanel f (unequalPanel f)
 
 -- 64: "t below some panel's least thickness"
+abbrev pub thinner : ℕ → ℕ → Bool
+thinner t least = ltb t least
+
 unfoldable pub thinPanel : List ℕ → ℕ → ℕ → Bool
-thinPanel f i j = ltb (thickness f) (panelThickness f i j)
+thinPanel f i j = thinner (thickness f) (panelThickness f i j)
 
 -- the sum of what is broken
 abbrev pub bit : Bool → ℕ → ℕ

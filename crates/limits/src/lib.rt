@@ -1,10 +1,10 @@
 // The limits on plain numbers, and the sum of what is broken (01, "The verdict").
 ghost use mathlib.Core.Path.{_≡_};
 ghost use mathlib.Core.Bool.{_||_};
-ghost use Prim.Native.Nat.{_*_, _≤_};
+ghost use Prim.Native.Nat.{_≤_};
 ghost use lib.Dec.{ltb};
 ghost use Rattle.limits.specs.Asked.{Neighbours};
-ghost use Rattle.limits.specs.Limits.{unlike, bit, sumOf};
+ghost use Rattle.limits.specs.Limits.{unlike, exceeds, overloaded, bit, sumOf};
 use numbers::either;
 use numbers::larger;
 use numbers::smaller;
@@ -28,14 +28,14 @@ pub fn unlike(a: u64, b: u64) -> bool
 
 // 8
 pub fn exceeds(offset: u32, span: u64) -> bool
-    ensures { λ r. ⌜ r ≡ ltb span (10 * offset) ⌝ }
+    ensures { λ r. ⌜ r ≡ exceeds offset span ⌝ }
 {
     span < 10 * (offset as u64)
 }
 
 // 16
 pub fn heavy(dead: u32, live: u32) -> bool
-    ensures { λ r. ⌜ r ≡ ltb (2 * dead) live ⌝ }
+    ensures { λ r. ⌜ r ≡ overloaded dead live ⌝ }
 {
     2 * (dead as u64) < live as u64
 }

@@ -1,4 +1,4 @@
--- What the rules ask, at each line and panel of an accepted floor: floor's `fair`, in the records of rules.
+-- What the rules ask, at each line and panel of an accepted floor: floor's `fair`, in the records that the formulas ask.
 --     beside-of, line-of, frame-of     the spans beside line l, with the column across, and W
 --     beam-of, alpha-bound             the beam on it, and α, of which its bound alone is used
 --     clear-of, grade-most, panel-in   a clear span, the grade, and a panel's two clear spans

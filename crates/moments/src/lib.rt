@@ -20,7 +20,7 @@ use lines::slab::slab_of;
 use numbers::both;
 use plan::fields::u16_at;
 use plan::read::bays_of;
-use tables::named::LOADS;
+use records::kinds::LOADS;
 use tables::places::record_count;
 use tables::write::WIDTH;
 use tables::write::blank;

@@ -7,9 +7,7 @@ use plan::ways::Way;
 use plan::ways::across;
 use plan::ways::line_kind;
 use plan::ways::span_kind;
-
-// The kind of the loads, which name every record.
-pub const LOADS: u32 = 3;
+use records::kinds::LOADS;
 
 // Spans from `from` on, below `to`.
 pub struct Spans {
