@@ -2,7 +2,6 @@
 use crate::areas::grade_420;
 use crate::compare::figure;
 use crate::compare::formula;
-use steel::steel;
 use stiffness::line::column_strip_width;
 use stiffness::line::frame_width;
 use stiffness::section::Section;

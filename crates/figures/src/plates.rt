@@ -4,7 +4,6 @@ use crate::compare::figure;
 use crate::compare::formula;
 use crate::edge::edge_strip;
 use crate::edge::edge_width;
-use steel::steel;
 use stiffness::line::alpha;
 use stiffness::line::column_strip_width;
 use stiffness::section::Section;

@@ -22,8 +22,7 @@ use Rattle.layouts.specs.declared.Rule.the-variants.{Columns, Beams, Dep
 use Rattle.plan.proofs.Directions.{says-ways}
 use Rattle.plan.specs.Ways.{across}
 use Rattle.plan.specs.Plan.{bays, thickness, lastLine, beamWidth, beamDepth}
-use Rattle.layouts.specs.Layouts.{beamOn, outerLine, keeps, asked, keptAlong, kept, layoutOf}
-use Rattle.layouts.specs.Layouts.{beamsOk}
+use Rattle.layouts.specs.Layouts.{beamOn, outerLine, keeps, asked, keptAlong, kept, layoutOf, beamsOk}
 use Rattle.layouts.specs.Meaning.{ColumnsFit, EachLine, SomeLine, Beamed, Outer, HasBeam, LaidOut, LayoutAllowed, BeamsDeep, LayoutIs}
 
 pub beam-on : (layout : Layout) {outer : Bool} {P : Type 0} → Says outer P → Says (beamOn layout outer) (HasBeam layout P)

@@ -6,7 +6,7 @@
 use Prim.Native.Nat.{ℕ, _≤_, zero-le}
 use mathlib.Core.List.{List}
 use mathlib.Core.Logic.{_⊎_, inl, inr, ⊎-elim}
-use mathlib.Core.Path.{_≡_, refl, sym, subst, _∙_}
+use mathlib.Core.Path.{_≡_, refl, sym, subst}
 use native.Mathlib.Decide.{decLt}
 use native.Mathlib.Omega.{arith}
 use Rattle.numbers.proofs.Tests.{says-eq, says-or, says-as, says-one, by-test, by-says}

@@ -23,7 +23,7 @@ use lib.ListN.{getD, length, set}
 use lib.Seq.{getD-set-same, getD-set-other, ext-getD}
 use Rattle.plan.specs.declared.ways.Way.{Way}
 use Rattle.plan.specs.declared.ways.Way.the-variants.{X, Y}
-use Rattle.plan.specs.Ways.{across, pick}
+use Rattle.plan.specs.Ways.{across}
 use Rattle.plan.specs.Plan.{bays, thickness, grade, column, lastLine}
 use Rattle.layouts.specs.Layouts.{layoutOf, outerLine}
 use Rattle.floor.specs.Refusal.{refusal}

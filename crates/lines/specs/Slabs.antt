@@ -3,8 +3,7 @@
 use Prim.Native.Nat.{ℕ}
 use mathlib.Core.List.{List}
 use Rattle.plan.specs.declared.ways.Way.the-variants.{X, Y}
-use Rattle.plan.specs.Plan.{thickness, grade, column, dead, live}
-use Rattle.plan.specs.Plan.{baysOf}
+use Rattle.plan.specs.Plan.{thickness, grade, column, dead, live, baysOf}
 use Rattle.layouts.specs.Layouts.{layoutOf}
 use Rattle.lines.specs.declared.slab.Slab.{Slab}
 

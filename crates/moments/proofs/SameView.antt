@@ -15,8 +15,7 @@ use Rattle.plan.specs.declared.ways.Way.the-variants.{X, Y}
 use Rattle.plan.specs.declared.ways.End.{End}
 use Rattle.plan.specs.declared.ways.End.the-variants.{Low, High}
 use Rattle.plan.specs.Ways.{across, spanKind, lineKind, sideUnit}
-use Rattle.plan.specs.Plan.{bays, value, dead, live, column, side, span, beamWidth, beamDepth}
-use Rattle.plan.specs.Plan.{baysOf}
+use Rattle.plan.specs.Plan.{bays, value, dead, live, column, side, span, beamWidth, beamDepth, baysOf}
 use Rattle.layouts.specs.Layouts.{layoutOf}
 use Rattle.changes.specs.Change.{changeKind, changeIndex, changed}
 use Rattle.changes.specs.Meaning.{TakenChange}

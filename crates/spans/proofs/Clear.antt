@@ -17,8 +17,7 @@ use Rattle.plan.specs.declared.ways.Way.the-variants.{X, Y}
 use Rattle.plan.specs.declared.ways.End.{End}
 use Rattle.plan.specs.declared.ways.End.the-variants.{Low, High}
 use Rattle.plan.specs.Ways.{across, spanKind}
-use Rattle.plan.specs.Plan.{bays, thickness, span}
-use Rattle.plan.specs.Plan.{baysOf}
+use Rattle.plan.specs.Plan.{bays, thickness, span, baysOf}
 use Rattle.plan.proofs.Reading.{absent}
 use Rattle.plan.proofs.Directions.{span-count}
 use Rattle.floor.proofs.Fair.{fair}

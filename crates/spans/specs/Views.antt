@@ -9,8 +9,7 @@ use Rattle.plan.specs.declared.ways.End.{End}
 use Rattle.plan.specs.declared.ways.End.the-variants.{Low, High}
 use Rattle.plan.specs.declared.read.Bays.{Bays}
 use Rattle.plan.specs.Ways.{pick, across}
-use Rattle.plan.specs.Plan.{bays, column, side, span, beamWidth, beamDepth}
-use Rattle.plan.specs.Plan.{baysOf}
+use Rattle.plan.specs.Plan.{bays, column, side, span, beamWidth, beamDepth, baysOf}
 use Rattle.lines.specs.Lines.{outer, below, above}
 use Rattle.lines.specs.Slabs.{slabOf}
 use Rattle.spans.specs.declared.view.LineView.{LineView}

@@ -15,8 +15,7 @@ use Rattle.plan.specs.declared.ways.Way.{Way}
 use Rattle.plan.specs.declared.ways.Way.the-variants.{X, Y}
 use Rattle.plan.specs.Ways.{pick}
 use Rattle.plan.specs.declared.read.Bays.{Bays}
-use Rattle.plan.specs.Plan.{bays, lastLine}
-use Rattle.plan.specs.Plan.{baysOf}
+use Rattle.plan.specs.Plan.{bays, lastLine, baysOf}
 use Rattle.plan.specs.Asked.{Sized}
 use Rattle.plan.proofs.Reading.{bays-most}
 use Rattle.tables.specs.Places.{Place, Inside, recordsOf, recordCount, firstIn, lineFirstIn, firstOf, lineFirst, numberOf, placeOf}

@@ -8,8 +8,7 @@ use Rattle.plan.specs.declared.ways.Way.{Way}
 use Rattle.plan.specs.declared.ways.Way.the-variants.{X, Y}
 use Rattle.plan.specs.declared.read.Bays.{Bays}
 use Rattle.plan.specs.Ways.{pick}
-use Rattle.plan.specs.Plan.{bays, lastLine}
-use Rattle.plan.specs.Plan.{baysOf}
+use Rattle.plan.specs.Plan.{bays, lastLine, baysOf}
 
 -- a span: of line `line` along `way`
 pub record Place : Type 0 where
