@@ -1,6 +1,6 @@
 -- What each limit says, both ways, put together from the parts of its test; and that the verdict is the one number that says which are broken.
 --     broken, broken-one     the verdict's digits are the limits, and no other number's are
---     clear                  it is 0 exactly where no limit is broken
+--     clear-is               it is 0 exactly where no limit is broken
 -- Assumes nothing.
 use Prim.Native.Nat.{ℕ, _+_, _*_, _-_, _/_, _<_, _≤_, min}
 use mathlib.Core.Bool.{Bool, _||_}
@@ -15,10 +15,11 @@ use Rattle.numbers.proofs.Tests.{says-lt, says-or, says-and, says-as, says-some
 use Rattle.plan.specs.declared.ways.Way.{Way}
 use Rattle.plan.specs.declared.ways.Way.the-variants.{X, Y}
 use Rattle.plan.specs.Ways.{pick}
-use Rattle.plan.specs.Plan.{bays, span, offset}
+use Rattle.plan.specs.Plan.{bays, thickness, span, offset}
 use Rattle.floor.specs.Refusal.{refusal}
 use Rattle.floor.proofs.Fair.{fair}
 use Rattle.lines.proofs.Meaning.{says-everywhere}
+use Rattle.lines.proofs.Enough.{says-thinner}
 use Rattle.limits.specs.Limits.{somePair, somePanel, few, slenderPanel, uneven, adjoining, astrayColumn, astray, heavy, unequalPanel, unbalanced, thinPanel, verdict}
 use Rattle.limits.specs.Meaning.{Few, Slender, UnevenAlong, Adjoins, Exceeded, Astray, Heavy, Unbalanced, Thin, Broken, Clear}
 use Rattle.limits.proofs.Digits.{digits, says-digit, same-digit, same-digits}
@@ -112,9 +113,9 @@ module _ (f : List ℕ) where
   unfolding unbalanced unequalPanel
   says-unbalanced e = says-and (says-everywhere f e) (says-pair (bays f X) (bays f Y) (λ i j hi hj. says-or (says-lt _ _) (says-lt _ _)))
 
-  says-thin : Says (somePanel f (thinPanel f)) (Thin f)
+  says-thin : refusal f ≡ 0 → Says (somePanel f (thinPanel f)) (Thin f)
   unfolding thinPanel
-  says-thin = says-pair (bays f X) (bays f Y) (λ i j hi hj. says-lt _ _)
+  says-thin e = says-pair (bays f X) (bays f Y) (λ i j hi hj. says-thinner f i j e hi hj (thickness f))
 
   -- ---- the sum
 
@@ -131,7 +132,7 @@ module _ (f : List ℕ) where
         eight = says-digit (says-astray e) (d .3);
         sixteen = says-digit says-heavy (d .4);
         thirtyTwo = says-digit (says-unbalanced e) (d .5);
-        sixtyFour = says-digit says-thin (d .6);
+        sixtyFour = says-digit (says-thin e) (d .6);
         most = d .7;
       }
 
@@ -173,5 +174,5 @@ zero-says n =
       most = omega arith;
     }
 
-pub clear : (f : List ℕ) → refusal f ≡ 0 → (verdict f ≡ 0) ↔ Clear f
-clear f e = (λ z. nothing (subst (Broken f) z (broken f e)), λ n. broken-one (broken f e) (zero-says n))
+pub clear-is : {f : List ℕ} {v : ℕ} → Broken f v → (v ≡ 0) ↔ Clear f
+clear-is {f} b = (λ z. nothing (subst (Broken f) z b), λ n. broken-one b (zero-says n))

@@ -10,7 +10,8 @@ use Rattle.plan.specs.declared.ways.Way.the-variants.{X, Y}
 use Rattle.plan.specs.Ways.{pick}
 use Rattle.plan.specs.Plan.{bays, thickness, dead, live, span, offset}
 use Rattle.layouts.specs.Meaning.{EachLine, Beamed}
-use Rattle.lines.specs.Lines.{pairAlpha, panelThickness}
+use Rattle.lines.specs.Lines.{pairAlpha}
+use Rattle.lines.specs.Meaning.{PanelEnough}
 
 -- there is a panel, of x bay i and y bay j, that has P
 abbrev pub SomePanel : List ℕ → (ℕ → ℕ → Type 0) → Type 0
@@ -60,9 +61,9 @@ Unbalanced f =
     EachLine f (Beamed f)
     × SomePanel f (λ i j. Unequal (pairAlpha f X j * (span f Y j * span f Y j)) (pairAlpha f Y i * (span f X i * span f X i)))
 
--- 64: "t below some panel's least thickness", of which crate lines proves that it is the least
+-- 64: "t below some panel's least thickness": the slab's own thickness is not enough for that panel
 abbrev pub Thin : List ℕ → Type 0
-Thin f = SomePanel f (λ i j. thickness f < panelThickness f i j)
+Thin f = SomePanel f (λ i j. ¬ PanelEnough f i j (thickness f))
 
 -- "A sum of what is broken": v has the part 4, for one, exactly where limit 4 is broken, and no part but these
 pub record Broken (f : List ℕ) (v : ℕ) : Type 0 where

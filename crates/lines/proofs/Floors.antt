@@ -2,7 +2,6 @@
 --     beside-of, line-of, frame-of     the spans beside line l, with the column across, and W
 --     beam-of, alpha-bound             the beam on it, and α, of which its bound alone is used
 --     clear-of, grade-most, panel-in   a clear span, the grade, and a panel's two clear spans
---     panel-least                      a panel's least thickness is the least that 01 asks: bit 64 and the panel query speak of one number
 -- A line is the first, the last or one inside; the span past an outer line is not there and reads 0.
 -- Assumes nothing.
 use Prim.Native.Nat.{ℕ, _*_, _-_, _%_, _≤_, _<_, zero-le}
@@ -12,7 +11,6 @@ use mathlib.Core.Logic.{inl, inr, ⊎-elim}
 use mathlib.Core.Path.{_≡_, refl}
 use native.Mathlib.Omega.{arith}
 use borrow.Author.Tests.{eq-eqb, ne-eqb}
-use Rattle.numbers.specs.Least.{Least}
 use Rattle.numbers.specs.Tests.{Says}
 use Rattle.numbers.proofs.Tests.{says-eq, by-test}
 use Rattle.plan.specs.declared.ways.Way.{Way}
@@ -29,8 +27,8 @@ use Rattle.stiffness.specs.Asked.{Span, Column, OneSpan, Beside, Line, Frame, B
 use Rattle.thickness.specs.Asked.{PanelSizes}
 use Rattle.stiffness.proofs.Widths.{frame-in}
 use Rattle.stiffness.proofs.Stiffness.{alpha-most}
-use Rattle.thickness.proofs.Thinnest.{panel-of, least-thickness}
-use Rattle.lines.specs.Lines.{outer, below, above, lineWidth, lineAlpha, clearSpan, panelView, PanelEnough, panelThickness}
+use Rattle.thickness.proofs.Thinnest.{panel-of}
+use Rattle.lines.specs.Lines.{outer, below, above, lineWidth, lineAlpha, clearSpan, panelView}
 use Rattle.lines.specs.Asked.{OnLine, InBay}
 
 -- of two statements, the one that a test picks
@@ -121,7 +119,3 @@ module _ (f : List ℕ) (i j : ℕ) (e : refusal f ≡ 0) (hi : i < bays f X) (h
   unfolding panelView
   panel-in =
       panel-of (grade-most f e) (clear-of f X i (record { accepted = e; bay = hi })) (clear-of f Y j (record { accepted = e; bay = hj }))
-
-  pub panel-least : Least (PanelEnough f i j) (panelThickness f i j)
-  unfolding panelThickness
-  panel-least = least-thickness (panelView f i j) panel-in .0

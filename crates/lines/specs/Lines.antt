@@ -15,7 +15,7 @@ use Rattle.thickness.specs.declared.Panel.{Panel}
 use Rattle.thickness.specs.declared.PanelPlace.{PanelPlace}
 use Rattle.thickness.specs.declared.PanelPlace.the-variants.{Edged, Inner}
 use Rattle.stiffness.specs.Lines.{frameWidth, alpha}
-use Rattle.thickness.specs.LeastThickness.{Enough, leastThickness}
+use Rattle.thickness.specs.LeastThickness.{leastThickness}
 
 -- ---- line l along d
 
@@ -51,6 +51,13 @@ panelAlpha f i j = pairAlpha f X j + pairAlpha f Y i
 unfoldable pub clearSpan : List ℕ → Way → ℕ → ℕ
 clearSpan f d k = span f d k - column f d
 
+-- the panel's shorter and longer clear span
+abbrev pub shorterClear : List ℕ → ℕ → ℕ → ℕ
+shorterClear f i j = min (clearSpan f X i) (clearSpan f Y j)
+
+abbrev pub longerClear : List ℕ → ℕ → ℕ → ℕ
+longerClear f i j = max (clearSpan f X i) (clearSpan f Y j)
+
 -- an outer panel touches at least one outer line
 abbrev pub touches : List ℕ → Way → ℕ → Bool
 touches f d k = outer f d k || outer f d (k + 1)
@@ -80,14 +87,11 @@ panelView f i j =
       everywhere = isEverywhere (layoutOf f);
       place = panelPlace f i j;
       fy = grade f;
-      sn = min (clearSpan f X i) (clearSpan f Y j);
-      ln = max (clearSpan f X i) (clearSpan f Y j);
+      sn = shorterClear f i j;
+      ln = longerClear f i j;
       s = panelAlpha f i j;
     }
 
--- what is asked of a thickness of the panel, and the least that it comes to
-abbrev pub PanelEnough : List ℕ → ℕ → ℕ → ℕ → Type 0
-PanelEnough f i j = Enough (panelView f i j)
-
+-- the least that it comes to; what is asked of it is said in `Meaning: PanelEnough`
 unfoldable pub panelThickness : List ℕ → ℕ → ℕ → ℕ
 panelThickness f i j = leastThickness (panelView f i j)

@@ -1,12 +1,18 @@
--- What the tests of a panel mean, as statements; proofs/Meaning has that each test says its statement, both ways.
+-- What the tests of a panel mean, and what is asked of its thickness, as statements. proofs/Meaning has that each test says its statement, both
+-- ways, and proofs/Enough that the least thickness is the least that is asked here.
 -- Assumes nothing.
-use Prim.Native.Nat.{ℕ, _+_}
+use Prim.Native.Nat.{ℕ, _+_, _≤_, _<_}
 use mathlib.Core.List.{List}
 use mathlib.Core.Logic.{_⊎_}
 use mathlib.Core.Path.{_≡_}
 use Rattle.plan.specs.declared.ways.Way.{Way}
 use Rattle.plan.specs.declared.ways.Way.the-variants.{X, Y}
-use Rattle.plan.specs.Plan.{bays}
+use Rattle.plan.specs.Plan.{bays, grade}
+use Rattle.layouts.specs.Meaning.{EachLine, Beamed, Outer}
+use Rattle.thickness.specs.declared.PanelPlace.{PanelPlace}
+use Rattle.thickness.specs.declared.PanelPlace.the-variants.{Bare, Edged, Inner}
+use Rattle.thickness.specs.LeastThickness.{Stiff, Middling, Tabled, divisor}
+use Rattle.lines.specs.Lines.{panelAlpha, shorterClear, longerClear}
 
 -- bay k is the first or the last of its direction
 abbrev pub EndBay : List ℕ → Way → ℕ → Type 0
@@ -15,3 +21,24 @@ EndBay f d k = (k ≡ 0) ⊎ (k + 1 ≡ bays f d)
 -- an outer panel touches at least one outer line
 abbrev pub OuterPanel : List ℕ → ℕ → ℕ → Type 0
 OuterPanel f i j = EndBay f X i ⊎ EndBay f Y j
+
+-- the outer lines have beams
+abbrev pub EdgeBeams : List ℕ → Type 0
+EdgeBeams f = EachLine f (λ d l. Outer f d l → Beamed f d l)
+
+-- "outer panel without edge beams, outer with, inner"
+abbrev pub PlaceIs : List ℕ → ℕ → ℕ → PanelPlace → Type 0
+PlaceIs f i j Bare = OuterPanel f i j × ¬ EdgeBeams f
+PlaceIs f i j Edged = OuterPanel f i j × EdgeBeams f
+PlaceIs f i j Inner = ¬ OuterPanel f i j
+
+-- "Least thickness": what is asked of the thickness t of the panel of x bay i and y bay j
+pub record PanelEnough (f : List ℕ) (i j t : ℕ) : Type 0 where
+  -- "beams everywhere, S > 80000"
+  pub stiff : EachLine f (Beamed f) → 80000 < panelAlpha f i j → Stiff (grade f) (shorterClear f i j) (longerClear f i j) t
+  -- "beams everywhere, 8000 < S ≤ 80000"
+  pub middling : EachLine f (Beamed f) → 8000 < panelAlpha f i j → panelAlpha f i j ≤ 80000
+      → Middling (grade f) (shorterClear f i j) (longerClear f i j) (panelAlpha f i j) t
+  -- "otherwise", with n of the panel's place
+  pub tabled : ¬ (EachLine f (Beamed f) × (8000 < panelAlpha f i j)) → (place : PanelPlace) → PlaceIs f i j place
+      → Tabled (divisor (grade f) place) (longerClear f i j) t

@@ -28,7 +28,7 @@ use Rattle.lines.specs.Slabs.{slabOf}
 use Rattle.lines.specs.Asked.{OnLine}
 use Rattle.lines.proofs.Floors.{beside-of, line-of, beam-of}
 use Rattle.limits.specs.Meaning.{Few, Slender}
-use Rattle.limits.proofs.Meaning.{clear}
+use Rattle.limits.proofs.Meaning.{broken, clear-is}
 use Rattle.spans.specs.declared.view.EndView.{EndView}
 use Rattle.spans.specs.Views.{lineView, endLine, outerEnd, innerEnd, lowEnd, highEnd, viewOf}
 use Rattle.spans.specs.Asked.{WorkableEnd, Workable, ClearSpan}
@@ -69,7 +69,7 @@ module _ {f : List ℕ} {d : Way} {l s : ℕ} (c : ClearSpan f d l s) where
   beside-sides : (m : ℕ) → SidedIfThere (span f d s) (span f (across d) m)
   beside-sides m there =
       elim (decLt m (bays f (across d))) [
-        | yes q ↦ panel-sides f (clear f (c .accepted) .0 (c .clear) .two) d s m (c .span) q
+        | yes q ↦ panel-sides f (clear-is (broken f (c .accepted)) .0 (c .clear) .two) d s m (c .span) q
         | no q ↦ absurd (omega (arith, absent f (spanKind (across d)) m 1 (omega (arith, span-count f (across d)))))
       ]
 
@@ -125,6 +125,6 @@ module _ {f : List ℕ} {d : Way} {l s : ℕ} (c : ClearSpan f d l s) where
       three : (d : Way) → 3 ≤ bays f d
       three d =
           elim (decLt (bays f d) 3) [
-            | yes q ↦ absurd (clear f (c .accepted) .0 (c .clear) .one (few-of d q))
+            | yes q ↦ absurd (clear-is (broken f (c .accepted)) .0 (c .clear) .one (few-of d q))
             | no q ↦ omega arith
           ]

@@ -1,5 +1,6 @@
 -- The thickness of specs/ is the least that 01 asks, between 90 and 422, and no other number is it.
 -- Each of the three rules asks n ≤ t·d and t ≥ m, so its least t is n/d rounded up; 422 meets each, so none is above it.
+-- And what is enough is enough for every t above it (`enough-on`), so that t is below the least exactly where it is not enough.
 -- Assumes nothing.
 use Prim.Native.Nat.{ℕ, _+_, _*_, _-_, _≤_, _<_, min, max}
 use mathlib.Core.Bool.{Bool, true, false, cond, _&&_}
@@ -96,6 +97,30 @@ unfolding Enough leastThickness
 least-thickness p h =
     by-case Found (p .everywhere) (p .s) (least-stiff (p .fy) (p .sn) (p .ln) (p .s) h) (least-middling (p .fy) (p .sn) (p .ln) (p .s) h)
     (least-tabled (p .fy) (p .sn) (p .ln) (p .s) h (divisor (p .fy) (p .place)) (divisor-in (p .fy) (p .place) .0))
+
+-- ---- a thicker slab is enough too
+
+abbrev Rising : (ℕ → Type 0) → Type 0
+Rising P = (t u : ℕ) → t ≤ u → P t → P u
+
+rising-stiff : (fy sn ln : ℕ) → Rising (Stiff fy sn ln)
+unfolding Stiff
+rising-stiff fy sn ln t u h p = (omega (arith, p .0, # 1400 ⊗ h ⊗ # (36 * sn + 9 * ln)), omega (arith, h, p .1))
+
+rising-middling : (fy sn ln S : ℕ) → Rising (Middling fy sn ln S)
+unfolding Middling
+rising-middling fy sn ln S t u h p =
+    (omega (arith, p .0, # 1400 ⊗ h ⊗ # (1440000 * sn + 5 * ln * (S - 8000))), omega (arith, h, p .1))
+
+rising-tabled : (n ln : ℕ) → Rising (Tabled n ln)
+unfolding Tabled
+rising-tabled n ln t u h p = (omega (arith, p .0, h ⊗ # n), omega (arith, h, p .1))
+
+pub enough-on : (p : Panel) → Rising (Enough p)
+unfolding Enough
+enough-on p =
+    by-case (λ P _. Rising P) (p .everywhere) (p .s) {p = 0} {q = 0} {r = 0} (rising-stiff (p .fy) (p .sn) (p .ln))
+    (rising-middling (p .fy) (p .sn) (p .ln) (p .s)) (rising-tabled (divisor (p .fy) (p .place)) (p .ln))
 
 -- the definition's number is the answer, and the answer is one
 pub thinnest : {p : Panel} {r : ℕ} → PanelSizes (p .fy) (p .sn) (p .ln) → r ≡ leastThickness p → Thinnest p r

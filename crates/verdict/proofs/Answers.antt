@@ -6,7 +6,7 @@ use mathlib.Core.Path.{_≡_, refl, sym, _∙_}
 use Rattle.numbers.specs.Least.{least-one}
 use Rattle.numbers.proofs.Tests.{says-eq, by-test, by-says}
 use Rattle.numbers.proofs.Chains.{answers, given-one}
-use Rattle.lines.proofs.Floors.{panel-least}
+use Rattle.lines.proofs.Enough.{panel-least}
 use Rattle.answers.specs.declared.Answer.{Answer}
 use Rattle.answers.proofs.Answers.{same-answer}
 use Rattle.verdict.specs.Answers.{panelChecks, panelRefusal, panelOf, PanelAnswer}

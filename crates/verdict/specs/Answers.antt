@@ -12,7 +12,8 @@ use Rattle.numbers.specs.Least.{Least}
 use Rattle.floor.specs.Refusal.{floorChecks}
 use Rattle.plan.specs.declared.ways.Way.the-variants.{X, Y}
 use Rattle.plan.specs.Plan.{bays}
-use Rattle.lines.specs.Lines.{PanelEnough, panelThickness}
+use Rattle.lines.specs.Lines.{panelThickness}
+use Rattle.lines.specs.Meaning.{PanelEnough}
 use Rattle.answers.specs.declared.Answer.{Answer}
 use Rattle.answers.specs.Answers.{answer}
 
