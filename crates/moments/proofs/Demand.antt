@@ -1,12 +1,14 @@
 -- Demand 3, over any run of changes: by induction on the run, the floor held is accepted, what is lent has room for its table, and the
--- table held is its floor's, worked out afresh.
+-- table held is its floor's, worked out afresh; so the verdict that stands at its end is the floor's (`at-its-end`).
 -- Assumes nothing.
 use Prim.Native.Nat.{ℕ}
 use mathlib.Core.Bool.{Bool, true, false, cond}
-use mathlib.Core.List.{List, _∷_}
+use mathlib.Core.List.{List, [], _∷_}
 use mathlib.Core.Path.{_≡_, refl, sym, ap, _∙_}
+use borrow.Author.Tests.{ne-eqb}
+use lib.Dec.{eqb}
 use Rattle.numbers.specs.Tests.{Says}
-use Rattle.numbers.proofs.Tests.{says-eq, by-test}
+use Rattle.numbers.proofs.Tests.{says-eq, by-test, by-says}
 use Rattle.floor.specs.Refusal.{refusal}
 use Rattle.changes.specs.Change.{changed}
 use Rattle.changes.specs.Meaning.{TakenChange}
@@ -15,12 +17,12 @@ use Rattle.answers.specs.declared.Answer.{Answer}
 use Rattle.answers.specs.Answers.{answer, answered}
 use Rattle.limits.specs.Limits.{verdict}
 use Rattle.moments.specs.Lent.{Lent, lent}
-use Rattle.moments.specs.Tables.{afresh, roomChecks}
+use Rattle.moments.specs.Tables.{afresh, roomChecks, Lodged}
 use Rattle.moments.specs.Opening.{openRefusal, Opened}
 use Rattle.moments.specs.Changing.{changingChecks, changeNumber, floorAfter, lentAfter, Changed}
-use Rattle.moments.specs.Mornings.{Morning, Held}
+use Rattle.moments.specs.Mornings.{Morning, placed, gave, standing, Held}
 use Rattle.moments.specs.Mornings.Morning.{none, then}
-use Rattle.moments.proofs.Room.{Lodged, open-parts, change-parts}
+use Rattle.moments.proofs.Room.{open-parts, change-parts}
 use Rattle.moments.proofs.Fresh.{length-fresh, count-kept, made-fresh}
 
 -- two choices by one test are equal where their first are, and their second
@@ -100,20 +102,43 @@ run : (l : Lent) {f g : List ℕ} {u w : Lent} {cs : List (List ℕ)} {rs : List
 run l r e none = record { floor = refl; lent = e; answers = refl }
 run l r e (then p m) = before r e p (run l (ready-is r e p) (lent-is r e p) m)
 
+-- ---- what stands at its end
+
+-- the verdict that stands after one change is that of the floor left
+stands-next : (f c : List ℕ) (l : Lent)
+    → (let a = answered (changeNumber f l c) (verdict (floorAfter f l c)) in cond (eqb (a .refusal) 0) (a .value) (verdict f)) ≡ verdict (floorAfter f l c)
+stands-next f c l = by-says (says-eq (changeNumber f l c) 0) (λ z. rw z) (λ ne. let no = ne-eqb (changeNumber f l c) 0 ne in rw no (rw no))
+
+stands-last : (l : Lent) (f : List ℕ) (cs : List (List ℕ)) → standing (verdict f) (gave f l cs) ≡ verdict (placed f l cs)
+stands-last l f [] = refl
+stands-last l f (c ∷ cs) =
+    ap (λ (v : ℕ). standing v (gave (floorAfter f l c) l cs)) (stands-next f c l) ∙ stands-last l (floorAfter f l c) cs
+
+ready-placed : (l : Lent) (f : List ℕ) (cs : List (List ℕ)) → Ready f l → Ready (placed f l cs) l
+ready-placed l f [] h = h
+ready-placed l f (c ∷ cs) h = ready-placed l (floorAfter f l c) cs (ready-after f c l h)
+
 -- "The floor is then the first one with each change not refused put in its place in turn, the table equals that floor's table worked out
 -- afresh, and each change not refused gave the verdict of the floor it made."
+opened-number : {f : List ℕ} {l u : Lent} {a : Answer} → Opened f l a u → a .refusal ≡ 0 → openRefusal f l ≡ 0
+opened-number {f} {l} o z =
+    by-test (λ (x : Answer). x .refusal ≡ 0 → openRefusal f l ≡ 0) (says-eq (openRefusal f l) 0) (λ q _. q) (λ _ q. q)
+    (ap (λ (x : Answer). x .refusal) (sym (o .answer)) ∙ z)
+
+opened-ready : {f : List ℕ} {l u : Lent} {a : Answer} → Opened f l a u → a .refusal ≡ 0 → Ready f l
+opened-ready {f} {l} o z = let parts = open-parts f l (opened-number o z) in record { accepted = parts .0; room = parts .1 }
+
 pub morning : {f g : List ℕ} {l u w : Lent} {a : Answer} {cs : List (List ℕ)} {rs : List Answer}
     → Opened f l a u → a .refusal ≡ 0 → Morning f u cs rs g w → Held f l cs rs g w
-unfolding openRefusal
-morning {f} {l = l} {u} {a = a} o z m = run l ready filled m
-  where
-    number : openRefusal f l ≡ 0
-    number =
-        by-test (λ (x : Answer). x .refusal ≡ 0 → openRefusal f l ≡ 0) (says-eq (openRefusal f l) 0) (λ q _. q) (λ _ q. q)
-        (ap (λ (x : Answer). x .refusal) (sym (o .answer)) ∙ z)
+morning {l = l} o z m = run l (opened-ready o z) (o .lent ∙ rw (opened-number o z)) m
 
-    ready : Ready f l
-    ready = record { accepted = open-parts f l number .0; room = open-parts f l number .1 }
-
-    filled : u ≡ afresh f l
-    filled = o .lent ∙ rw number
+-- the floor at its end is accepted and has room, and the verdict that stands is its own
+pub at-its-end : {f g : List ℕ} {l u w : Lent} {a : Answer} {cs : List (List ℕ)} {rs : List Answer}
+    → Opened f l a u → a .refusal ≡ 0 → Morning f u cs rs g w → Ready g l × (w ≡ afresh g l) × (standing (a .value) rs ≡ verdict g)
+at-its-end {f} {l = l} {a = a} {cs = cs} o z m =
+    let held = morning o z m in
+    let value : a .value ≡ verdict f = ap (λ (x : Answer). x .value) (o .answer) ∙ rw (opened-number o z) in (
+      rw (held .floor) (ready-placed l f cs (opened-ready o z)),
+      rw (held .floor) (held .lent),
+      rw (held .floor, held .answers, value) (stands-last l f cs),
+    )

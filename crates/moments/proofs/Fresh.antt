@@ -21,7 +21,7 @@ use Rattle.changes.specs.Meaning.{TakenChange}
 use Rattle.changes.proofs.Kept.{bays-kept}
 use Rattle.limits.specs.Limits.{verdict}
 use Rattle.limits.specs.Meaning.{Few}
-use Rattle.limits.proofs.Meaning.{clear}
+use Rattle.limits.proofs.Meaning.{broken, clear-is}
 use Rattle.spans.specs.Record.{recordOf}
 use Rattle.tables.specs.Width.{recordWidth}
 use Rattle.tables.specs.Places.{recordCount, placeOf}
@@ -29,8 +29,7 @@ use Rattle.tables.specs.Named.{namedAt}
 use Rattle.tables.specs.Blank.{zeros}
 use Rattle.tables.proofs.Meaning.{says-named-at}
 use Rattle.frames.specs.Table.{viewAt, recordAt, namedWritten}
-use Rattle.moments.specs.Tables.{rightRecord, fresh}
-use Rattle.moments.specs.Tables as tables
+use Rattle.moments.specs.Tables.{clear, rightRecord, fresh}
 use Rattle.moments.specs.Changing as changing
 use Rattle.moments.proofs.SameView.{same-view}
 
@@ -71,7 +70,7 @@ module _ (f c : List ℕ) (t : TakenChange f c) where
   named-kept kind index k = rw (place-kept k, same-bays (placeOf f k .way))
 
   wide : verdict f ≡ 0 → (d : Way) → 3 ≤ bays f d
-  wide e = by-way (clear f (t .held) .0 e .one)
+  wide e = by-way (clear-is (broken f (t .held)) .0 e .one)
     where
       by-way : ¬ Few f → (d : Way) → 3 ≤ bays f d
       by-way n X = let h : ¬ (bays f X < 3) = λ q. n (inl q) in omega arith
@@ -87,7 +86,7 @@ module _ (f c : List ℕ) (t : TakenChange f c) where
 
   -- what a change writes of the table of f makes it the table of g
   pub made-fresh : (lent : List ℕ) → recordCount f * recordWidth ≤ length lent
-      → changing.rewritten (tables.clear f) g (changeKind c) (changeIndex c) (fresh f lent) ≡ fresh g lent
+      → changing.rewritten (clear f) g (changeKind c) (changeIndex c) (fresh f lent) ≡ fresh g lent
   unfolding changing.rewritten namedWritten fresh
   made-fresh lent room = by-clear (says-and (says-eq (verdict f) 0) (says-eq (verdict g) 0))
     where
@@ -95,8 +94,8 @@ module _ (f c : List ℕ) (t : TakenChange f c) where
           → written recordWidth s (rightRecord g) (recordCount g) (written recordWidth every (rightRecord f) (recordCount f) lent) ≡ written recordWidth every (rightRecord g) (recordCount g) lent
       anew s same = rw count-kept (rewritten recordWidth s (rightRecord f) (rightRecord g) (right-full f) (right-full g) (recordCount f) lent (omega arith) room same)
 
-      by-clear : Says (tables.clear f && tables.clear g) ((verdict f ≡ 0) × (verdict g ≡ 0))
-          → cond (tables.clear f && tables.clear g) (namedWritten g (changeKind c) (changeIndex c) (fresh f lent)) (fresh g (fresh f lent)) ≡ fresh g lent
+      by-clear : Says (clear f && clear g) ((verdict f ≡ 0) × (verdict g ≡ 0))
+          → cond (clear f && clear g) (namedWritten g (changeKind c) (changeIndex c) (fresh f lent)) (fresh g (fresh f lent)) ≡ fresh g lent
       by-clear says =
           by-test (λ u. u ≡ fresh g lent) says
           (λ e. same-written recordWidth _ _ _ _ 0 (recordCount g) _ (λ k _ _. refl) (λ k _ _. sym (right-clear g (e .1) k))

@@ -13,16 +13,17 @@ use Rattle.changes.specs.Change.{changeKind, changeIndex, changed}
 use Rattle.answers.specs.declared.Answer.{Answer}
 use Rattle.answers.specs.Answers.{answered}
 use Rattle.limits.specs.Limits.{verdict}
+use Rattle.limits.specs.Meaning.{Clear}
 use Rattle.limits.proofs.Meaning.{broken, broken-one}
 use Rattle.answers.proofs.Answers.{same-answer}
 use Rattle.moments.specs.Lent.{Lent, lent}
-use Rattle.moments.specs.Tables.{clear}
+use Rattle.moments.specs.Tables.{clear, afresh, Lodged}
 use Rattle.moments.specs.Opening.{openRefusal, Opened}
 use Rattle.moments.specs.Changing.{changeNumber, rewritten, lentAfter, Changed}
 use Rattle.moments.specs.Meaning.{LentOf, LentNamed, Judged, Earned, OpeningSays, ChangeSays}
 use Rattle.moments.proofs.Demand.{taken-of, lodged-changed}
 use Rattle.moments.proofs.Room.{open-parts, given-opening, given-changing}
-use Rattle.moments.proofs.Numbers.{table-of, named-of, table-of-one, named-of-one}
+use Rattle.moments.proofs.Numbers.{says-clear, table-of, named-of, table-of-one, named-of-one}
 
 -- ---- the answer
 
@@ -43,8 +44,11 @@ earned p = (λ e z. absurd (omega (arith, p .verdict (sym (p .refusal) ∙ z) .m
 
 -- ---- everything lent
 
-pub lent-of-one : (f : List ℕ) {l u v : Lent} → LentOf f l u → LentOf f l v → u ≡ v
-lent-of-one f p q = ap lent (table-of-one f (p .table) (q .table))
+pub lent-of : (f : List ℕ) (l : Lent) → refusal f ≡ 0 → Lodged f l → LentOf f l (afresh f l)
+lent-of f l e room = record { table = table-of f (l .table) (room .table) e }
+
+pub lent-of-one : (f : List ℕ) → refusal f ≡ 0 → {l u v : Lent} → LentOf f l u → LentOf f l v → u ≡ v
+lent-of-one f e p q = ap lent (table-of-one f e (p .table) (q .table))
 
 pub lent-named-one : (f : List ℕ) {kind index : ℕ} {l u v : Lent} → LentNamed f kind index l u → LentNamed f kind index l v → u ≡ v
 lent-named-one f p q = ap lent (named-of-one f (p .table) (q .table))
@@ -58,14 +62,14 @@ opening-says {f} {l} o =
       given = given-opening _ f l .0 refl;
       answer = rw (o .answer) (judged f (openRefusal f l) (λ z. open-parts f l z .0));
       refused = λ ne. o .lent ∙ rw (ne-eqb (openRefusal f l) 0 ne);
-      filled = λ z. rw (o .lent, z) (record { table = table-of f (l .table) (open-parts f l z .1 .table) });
+      filled = λ z. let parts = open-parts f l z in rw (o .lent, z) (lent-of f l (parts .0) (parts .1));
     }
 
 pub opening-one : {f : List ℕ} {l u v : Lent} {a b : Answer} → OpeningSays f l a u → OpeningSays f l b v → (a ≡ b) × (u ≡ v)
 opening-one {f} {l} {b = b} p q =
     let e : p .number ≡ q .number = sym (given-opening _ f l .1 (p .given)) ∙ given-opening _ f l .1 (q .given) in (
       judged-one (p .answer) (subst (λ n. Judged f n b) (sym e) (q .answer)),
-      by-says (says-eq (p .number) 0) (λ z. lent-of-one f (p .filled z) (q .filled (sym e ∙ z)))
+      by-says (says-eq (p .number) 0) (λ z. lent-of-one f (open-parts f l (given-opening _ f l .1 (p .given) ∙ z) .0) (p .filled z) (q .filled (sym e ∙ z)))
           (λ ne. p .refused ne ∙ sym (q .refused (λ z. ne (e ∙ z)))),
     )
 
@@ -78,17 +82,17 @@ module _ (f c : List ℕ) (l : Lent) where
   abbrev number : ℕ
   number = changeNumber f l c
 
-  both-clear : Says (clear f && clear g) ((verdict f ≡ 0) × (verdict g ≡ 0))
-  both-clear = says-and (says-eq (verdict f) 0) (says-eq (verdict g) 0)
+  both-clear : number ≡ 0 → Says (clear f && clear g) (Clear f × Clear g)
+  both-clear z = let taken = taken-of f c l z in says-and (says-clear f (taken .held)) (says-clear g (taken .left))
 
-  whole-table : number ≡ 0 → ¬ ((verdict f ≡ 0) × (verdict g ≡ 0)) → LentOf g l (lentAfter f l c)
+  whole-table : number ≡ 0 → ¬ (Clear f × Clear g) → LentOf g l (lentAfter f l c)
   unfolding rewritten
-  whole-table z ne = rw (z, fails both-clear ne) (record { table = table-of g (l .table) (lodged-changed f c l z .table) })
+  whole-table z ne = rw (z, fails (both-clear z) ne) (lent-of g l (taken-of f c l z .left) (lodged-changed f c l z))
 
-  some-records : number ≡ 0 → verdict f ≡ 0 → verdict g ≡ 0 → LentNamed g (changeKind c) (changeIndex c) l (lentAfter f l c)
+  some-records : number ≡ 0 → Clear f → Clear g → LentNamed g (changeKind c) (changeIndex c) l (lentAfter f l c)
   unfolding rewritten
   some-records z p q =
-      rw (z, both-clear .passes (p, q)) (record { table = named-of g (l .table) (lodged-changed f c l z .table) (changeKind c) (changeIndex c) })
+      rw (z, both-clear z .passes (p, q)) (record { table = named-of g (l .table) (lodged-changed f c l z .table) (changeKind c) (changeIndex c) })
 
   pub change-says : {a : Answer} {f′ : List ℕ} {l′ : Lent} → Changed f l c a f′ l′ → ChangeSays f l c a f′ l′
   change-says o =
@@ -108,8 +112,9 @@ module _ (f c : List ℕ) (l : Lent) where
         judged-one (p .answer) (subst (λ n. Judged g n b) (sym e) (q .answer)),
         by-says (says-eq (p .number) 0) (λ z. p .taken z ∙ sym (q .taken (sym e ∙ z))) (λ ne. p .refused ne .0 ∙ sym (q .refused (λ z. ne (e ∙ z)) .0)),
         by-says (says-eq (p .number) 0)
-            (λ z. by-says both-clear
+            (λ z. let taken : number ≡ 0 = given-changing _ f l c .1 (p .given) ∙ z in
+            by-says (both-clear taken)
             (λ y. lent-named-one g (p .some z (y .0) (y .1)) (q .some (sym e ∙ z) (y .0) (y .1)))
-            (λ no. lent-of-one g (p .whole z no) (q .whole (sym e ∙ z) no)))
+            (λ no. lent-of-one g (taken-of f c l taken .left) (p .whole z no) (q .whole (sym e ∙ z) no)))
             (λ ne. p .refused ne .1 ∙ sym (q .refused (λ z. ne (e ∙ z)) .1)),
       )

@@ -4,7 +4,7 @@ use Prim.Native.Nat.{ℕ, _*_, _≤_}
 use mathlib.Core.Bool.{cond}
 use mathlib.Core.List.{List, _++_}
 use mathlib.Core.Logic.{_↔_}
-use mathlib.Core.Path.{_≡_, _∙_}
+use mathlib.Core.Path.{_≡_, refl, sym, _∙_}
 use lib.Dec.{eqb}
 use lib.ListN.{length}
 use Rattle.numbers.proofs.Tests.{says-le, says-eq, by-test}
@@ -19,14 +19,10 @@ use Rattle.changes.proofs.Given.{sound-change, number-ruled}
 use Rattle.tables.specs.Width.{recordWidth}
 use Rattle.tables.specs.Places.{recordCount}
 use Rattle.moments.specs.Lent.{Lent}
-use Rattle.moments.specs.Tables.{roomChecks, roomRefusal}
+use Rattle.moments.specs.Tables.{roomChecks, Lodged, roomRefusal}
 use Rattle.moments.specs.Opening.{openChecks, openRefusal}
 use Rattle.moments.specs.Changing.{changingChecks, changeNumber}
 use Rattle.moments.specs.Meaning.{GivenOpening, GivenChanging}
-
--- what is lent has room for what is written of floor f
-pub record Lodged (f : List ℕ) (l : Lent) : Type 0 where
-  pub table : recordCount f * recordWidth ≤ length (l .table)
 
 sound-room : (f : List ℕ) (l : Lent) → Sound (roomChecks f l)
 unfolding roomChecks
@@ -46,9 +42,17 @@ room-of : (f : List ℕ) (l : Lent) → tried (roomChecks f l) ≡ 0 → Lodged 
 unfolding roomChecks Holds
 room-of f l e = record { table = success (sound-room f l) .0 e .0 }
 
+room-is : (f : List ℕ) (l : Lent) → Lodged f l → tried (roomChecks f l) ≡ 0
+unfolding roomChecks Holds
+room-is f l h = success (sound-room f l) .1 (h .table, tt)
+
 pub open-parts : (f : List ℕ) (l : Lent) → openRefusal f l ≡ 0 → (refusal f ≡ 0) × Lodged f l
 unfolding openRefusal openChecks refusal
 open-parts f l e = let h = both-zero (sound-floor f) _ e in (h .0, room-of f l (h .1))
+
+pub open-whole : (f : List ℕ) (l : Lent) → refusal f ≡ 0 → Lodged f l → openRefusal f l ≡ 0
+unfolding openRefusal openChecks refusal
+open-whole f l e h = sym (decides (sound-floor f) (roomChecks f l) (sym e) refl (sym (room-is f l h)))
 
 pub change-parts : (f : List ℕ) (l : Lent) (c : List ℕ) → changeNumber f l c ≡ 0 → (changeRefusal f c ≡ 0) × Lodged f l
 unfolding changeNumber changingChecks changeRefusal

@@ -5,7 +5,8 @@ use mathlib.Core.List.{List}
 use mathlib.Core.Path.{_≡_}
 use native.Mathlib.Omega.{arith}
 use Rattle.floor.specs.Refusal.{refusal}
-use Rattle.limits.specs.Limits.{verdict}
+use Rattle.limits.specs.Meaning.{Clear}
+use Rattle.limits.proofs.Meaning.{broken, clear-is}
 use Rattle.spans.specs.Works.{spanWork}
 use Rattle.spans.specs.Record.{recordOf, endStrips, betweenStrips}
 use Rattle.spans.specs.Asked.{ClearSpan}
@@ -23,10 +24,10 @@ by-section P a b c (suc zero) h = b
 by-section P a b c (suc (suc zero)) h = c
 by-section P a b c (suc (suc (suc j))) h = absurd (omega arith)
 
-pub adds-up : {f t after : List ℕ} → refusal f ≡ 0 → verdict f ≡ 0 → TableOf f t after → (p : Place) → Inside f p → AddsUp f after p
+pub adds-up : {f t after : List ℕ} → refusal f ≡ 0 → Clear f → TableOf f t after → (p : Place) → Inside f p → AddsUp f after p
 unfolding recordOf endStrips betweenStrips split
 adds-up {f} {t} {after} accepted clear table p h =
-    let here : ClearSpan f (p .way) (p .line) (p .span) = record { accepted = accepted; clear = clear; line = h .line; span = h .span } in
+    let here : ClearSpan f (p .way) (p .line) (p .span) = record { accepted = accepted; clear = clear-is (broken f accepted) .1 clear; line = h .line; span = h .span } in
     let s = sections (workable here) in
     record {
       whole =

@@ -10,8 +10,7 @@ use lib.ListN.{length, getD}
 use Rattle.numbers.specs.Chains.{GivenBy}
 use Rattle.changes.specs.Change.{changeKind, changeIndex, changed}
 use Rattle.answers.specs.declared.Answer.{Answer}
-use Rattle.limits.specs.Limits.{verdict}
-use Rattle.limits.specs.Meaning.{Broken}
+use Rattle.limits.specs.Meaning.{Broken, Clear}
 use Rattle.spans.specs.Record.{recordOf}
 use Rattle.spans.specs.Meaning.{unrestrained}
 use Rattle.tables.specs.Width.{recordWidth}
@@ -42,8 +41,8 @@ rightNumber f p n = getD (recordOf (viewIn f p)) n 0
 pub record TableOf (f t after : List ℕ) : Type 0 where
   pub same-length : length after ≡ length t
   pub past : (i : ℕ) → recordCount f * recordWidth ≤ i → getD after i 0 ≡ getD t i 0
-  pub stands : verdict f ≡ 0 → (p : Place) → Inside f p → (n : ℕ) → n < recordWidth → numberIn f after p n ≡ rightNumber f p n
-  pub broken : ¬ (verdict f ≡ 0) → (p : Place) → Inside f p → (n : ℕ) → n < recordWidth → numberIn f after p n ≡ 0
+  pub stands : Clear f → (p : Place) → Inside f p → (n : ℕ) → n < recordWidth → numberIn f after p n ≡ rightNumber f p n
+  pub broken : ¬ Clear f → (p : Place) → Inside f p → (n : ℕ) → n < recordWidth → numberIn f after p n ≡ 0
 
 -- a record's sections are low end, between, high end; section j starts with its total, and column, middle, beam and slab follow
 abbrev pub sectionAt : ℕ → ℕ
@@ -96,5 +95,5 @@ pub record ChangeSays (f : List ℕ) (l : Lent) (c : List ℕ) (a : Answer) (f�
   pub answer : Judged (changed f c) number a
   pub refused : ¬ (number ≡ 0) → (f′ ≡ f) × (l′ ≡ l)
   pub taken : number ≡ 0 → f′ ≡ changed f c
-  pub whole : number ≡ 0 → ¬ ((verdict f ≡ 0) × (verdict (changed f c) ≡ 0)) → LentOf (changed f c) l l′
-  pub some : number ≡ 0 → verdict f ≡ 0 → verdict (changed f c) ≡ 0 → LentNamed (changed f c) (changeKind c) (changeIndex c) l l′
+  pub whole : number ≡ 0 → ¬ (Clear f × Clear (changed f c)) → LentOf (changed f c) l l′
+  pub some : number ≡ 0 → Clear f → Clear (changed f c) → LentNamed (changed f c) (changeKind c) (changeIndex c) l l′

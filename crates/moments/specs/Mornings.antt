@@ -2,8 +2,10 @@
 -- nobody else writing to either." What a run of calls is, and what is left of it.
 -- Assumes nothing.
 use Prim.Native.Nat.{ℕ}
+use mathlib.Core.Bool.{cond}
 use mathlib.Core.List.{List, [], _∷_}
 use mathlib.Core.Path.{_≡_}
+use lib.Dec.{eqb}
 use Rattle.answers.specs.declared.Answer.{Answer}
 use Rattle.answers.specs.Answers.{answered}
 use Rattle.limits.specs.Limits.{verdict}
@@ -26,6 +28,11 @@ placed f l (c ∷ cs) = placed (floorAfter f l c) l cs
 abbrev pub gave : List ℕ → Lent → List (List ℕ) → List Answer
 gave f l [] = []
 gave f l (c ∷ cs) = answered (changeNumber f l c) (verdict (floorAfter f l c)) ∷ gave (floorAfter f l c) l cs
+
+-- the verdict that stands after a run of calls: the last one that no refusal came with, or v where there is none
+abbrev pub standing : ℕ → List Answer → ℕ
+standing v [] = v
+standing v (a ∷ rs) = standing (cond (eqb (a .refusal) 0) (a .value) v) rs
 
 -- what a morning of changes cs, from floor f and what was lent, has answered and left: "the table equals that floor's table worked out afresh"
 pub record Held (f : List ℕ) (l : Lent) (cs : List (List ℕ)) (rs : List Answer) (f′ : List ℕ) (l′ : Lent) : Type 0 where

@@ -37,5 +37,9 @@ roomChecks f l =
     -- "lent table shorter than 16·((ny+1)nx+(nx+1)ny) numbers"
     8 unless leb (recordCount f * recordWidth) (length (l .table)) says (recordCount f * recordWidth ≤ length (l .table)) ∷ []
 
+-- what is lent has room for what is written of floor f
+pub record Lodged (f : List ℕ) (l : Lent) : Type 0 where
+  pub table : recordCount f * recordWidth ≤ length (l .table)
+
 unfoldable pub roomRefusal : List ℕ → Lent → ℕ
 roomRefusal f l = tried (roomChecks f l)
