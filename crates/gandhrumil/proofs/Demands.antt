@@ -1,28 +1,39 @@
 -- The three demands, each from the laws of the layer that keeps it.
 -- Assumes nothing.
-use Prim.Native.Nat.{ℕ, _<_}
+use Prim.Native.Nat.{ℕ}
 use mathlib.Core.List.{List}
+use mathlib.Core.Logic.{_↔_}
 use mathlib.Core.Path.{_≡_, sym, subst, _∙_}
-use Rattle.floor.specs.Refusal.{refusal}
+use Rattle.floor.specs.Refusal.{refusal, Given}
 use Rattle.floor.proofs.Meaning.{given}
 use Rattle.changes.specs.Change.{changeKind, changeIndex}
 use Rattle.answers.specs.declared.Answer.{Answer}
-use Rattle.limits.specs.Limits.{verdict}
-use Rattle.limits.specs.Meaning.{Broken}
-use Rattle.limits.proofs.Meaning.{broken, broken-one}
+use Rattle.limits.specs.Meaning.{Broken, Clear}
+use Rattle.limits.proofs.Meaning.{broken}
 use Rattle.verdict.proofs.Answers.{panel-answer}
-use Rattle.tables.specs.Width.{recordWidth}
-use Rattle.tables.specs.Places.{Place, Inside}
 use Rattle.moments.specs.Lent.{Lent}
-use Rattle.moments.specs.Opening.{Opened}
+use Rattle.moments.specs.Tables.{Lodged}
+use Rattle.moments.specs.Opening.{openRefusal, Opened}
 use Rattle.moments.specs.Changing.{Changed}
-use Rattle.moments.specs.Meaning.{GivenOpening, GivenChanging, numberIn, rightNumber, AddsUp, LentNamed, OpeningSays, ChangeSays}
-use Rattle.moments.proofs.Room.{open-parts, given-opening}
-use Rattle.moments.proofs.Meaning.{earned, opening-says, change-says}
+use Rattle.moments.specs.Meaning.{GivenOpening, GivenChanging, LentOf, LentNamed, OpeningSays, ChangeSays}
+use Rattle.moments.specs.Mornings.{Morning, standing}
+use Rattle.moments.proofs.Room.{open-parts, open-whole, given-opening}
+use Rattle.moments.proofs.Meaning.{earned, lent-of, opening-says, change-says}
 use Rattle.moments.proofs.Sums.{adds-up}
-use Rattle.moments.proofs.Demand.{morning}
+use Rattle.moments.proofs.Demand.{morning, at-its-end}
 use Rattle.steel.proofs.Answers.{steel-answer}
-use Rattle.gandhrumil.specs.Demands.{DemandOne, DemandTwo, DemandThree}
+use Rattle.gandhrumil.specs.Demands.{Told, DemandOne, DemandTwo, DemandThree}
+
+-- the verdict of a floor and its table, number by number
+told : {f : List ℕ} {l l′ : Lent} {v : ℕ} → refusal f ≡ 0 → Broken f v → LentOf f l l′ → Told f l v l′
+told accepted b lent =
+    let table = lent .table in
+    record {
+      verdict = b;
+      moments = λ clear p h. (table .stands clear p h, adds-up accepted clear table p h);
+      none = table .broken;
+      past = table .past;
+    }
 
 -- ---- opening
 
@@ -39,18 +50,17 @@ module _ {f : List ℕ} {l l′ : Lent} {a : Answer} (o : Opened f l a l′) whe
   open-refused : ¬ (a .refusal ≡ 0) → l′ ≡ l
   open-refused ne = opening .refused (λ z. ne (open-number ∙ z))
 
-  open-verdict : a .refusal ≡ 0 → Broken f (a .value)
-  open-verdict z = opening .answer .verdict (sym open-number ∙ z)
+  refusal-opened : a .refusal ≡ openRefusal f l
+  refusal-opened = sym (given-opening _ f l .1 open-given)
 
-  open-accepted : a .refusal ≡ 0 → refusal f ≡ 0
-  open-accepted z = open-parts f l (given-opening 0 f l .1 (subst (GivenOpening f l) z open-given)) .0
+  open-accepted : Lodged f l → (a .refusal ≡ 0) ↔ Given 0 f
+  open-accepted room =
+      (λ z. given 0 f .0 (open-parts f l (sym refusal-opened ∙ z) .0), λ g. refusal-opened ∙ open-whole f l (given 0 f .1 g) room)
 
-  open-moments : a .refusal ≡ 0 → a .value ≡ 0 → (p : Place) → Inside f p
-      → ((n : ℕ) → n < recordWidth → numberIn f (l′ .table) p n ≡ rightNumber f p n) × AddsUp f (l′ .table) p
-  open-moments z v p h =
-      let table = opening .filled (sym open-number ∙ z) .table in
-      let clear : verdict f ≡ 0 = broken-one (broken f (open-accepted z)) (open-verdict z) ∙ v in
-      (table .stands clear p h, adds-up (open-accepted z) clear table p h)
+  open-told : a .refusal ≡ 0 → Told f l (a .value) l′
+  open-told z =
+      let number : opening .number ≡ 0 = sym open-number ∙ z in
+      told (open-parts f l (sym refusal-opened ∙ z) .0) (opening .answer .verdict number) (opening .filled number)
 
 -- ---- a change
 
@@ -73,9 +83,17 @@ module _ {f c f′ : List ℕ} {l l′ : Lent} {a : Answer} (o : Changed f l c a
   change-verdict : a .refusal ≡ 0 → Broken f′ (a .value)
   change-verdict z = rw (change .taken (taken z)) (change .answer .verdict (taken z))
 
-  change-written : a .refusal ≡ 0 → verdict f ≡ 0 → verdict f′ ≡ 0 → LentNamed f′ (changeKind c) (changeIndex c) l l′
+  change-written : a .refusal ≡ 0 → Clear f → Clear f′ → LentNamed f′ (changeKind c) (changeIndex c) l l′
   change-written z before after =
       let e = change .taken (taken z) in rw e (change .some (taken z) before (rw e at after))
+
+-- ---- a morning
+
+afterwards : {f f′ : List ℕ} {l l₁ l′ : Lent} {a : Answer} {cs : List (List ℕ)} {rs : List Answer}
+    → Opened f l a l₁ → a .refusal ≡ 0 → Morning f l₁ cs rs f′ l′ → Told f′ l (standing (a .value) rs) l′
+afterwards {f′ = f′} {l} o z m =
+    let (ready, lent, stands) = at-its-end o z m in
+    rw (lent, stands) (told (ready .accepted) (broken f′ (ready .accepted)) (lent-of f′ l (ready .accepted) (ready .room)))
 
 -- ---- the demands
 
@@ -85,19 +103,18 @@ demand-one =
       opening = λ o. (open-given o, earned (opening o .answer), open-refused o);
       change = λ o. (change-given o, earned (change o .answer), change-refused o);
       panel = panel-answer;
-      steel = λ q. let s = steel-answer q in (s .outside, s .none, s .refused);
+      steel = steel-answer;
     }
 
 pub demand-two : DemandTwo
 demand-two =
     record {
-      accepted = given 0;
-      verdict-opening = open-verdict;
-      verdict-change = change-verdict;
-      moments = open-moments;
+      accepted = open-accepted;
+      opening = open-told;
+      change = change-verdict;
       steel = λ q h. let s = steel-answer q in
-          ((λ e. s .none .0 e .1, λ no. s .none .1 (h, no)), s .least);
+          ((λ e. s .found .0 e .1, λ some. s .found .1 (h, some)), (λ e. s .none .0 e .1, λ no. s .none .1 (h, no)), s .least);
     }
 
 pub demand-three : DemandThree
-demand-three = record { morning = morning; written = change-written }
+demand-three = record { morning = morning; afterwards = afterwards; written = change-written }

@@ -1,2 +1,3 @@
 pub mod FiguresHold
 pub mod Demands
+pub mod ExamplesHold

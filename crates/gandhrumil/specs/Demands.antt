@@ -1,29 +1,31 @@
 -- The three demands on the product, in their own words, as statements about what the exported functions promise. proofs/Demands shows them.
 -- `Opened` and `Changed` are the promises of opening and of a change (crate moments), `panelOf` that of the panel query (crate verdict), `steelOf` that of
--- the steel query (crate steel); none of them asks anything of the caller.
+-- the steel query (crate steel); none of them asks anything of the caller. What these say is said here by statements: `GivenBy` a chain of checks in the
+-- order tried, `Broken`, `Clear`, `PanelEnough`, `Fits`, and `rightNumber`, the number that the rules give.
 -- Assumes nothing.
-use Prim.Native.Nat.{ℕ, _<_}
+use Prim.Native.Nat.{ℕ, _*_, _≤_, _<_}
 use mathlib.Core.List.{List}
 use mathlib.Core.Logic.{_↔_}
 use mathlib.Core.Path.{_≡_}
+use lib.ListN.{getD}
 use Rattle.numbers.specs.Least.{Least}
-use Rattle.floor.specs.Refusal.{refusal, Given}
+use Rattle.floor.specs.Refusal.{Given}
 use Rattle.changes.specs.Change.{changeKind, changeIndex}
 use Rattle.answers.specs.declared.Answer.{Answer}
-use Rattle.limits.specs.Limits.{verdict}
-use Rattle.limits.specs.Meaning.{Broken}
+use Rattle.limits.specs.Meaning.{Broken, Clear}
 use Rattle.verdict.specs.Answers.{panelOf, PanelAnswer}
 use Rattle.tables.specs.Width.{recordWidth}
-use Rattle.tables.specs.Places.{Place, Inside}
+use Rattle.tables.specs.Places.{Place, Inside, recordCount}
 use Rattle.moments.specs.Lent.{Lent}
+use Rattle.moments.specs.Tables.{Lodged}
 use Rattle.moments.specs.Opening.{Opened}
 use Rattle.moments.specs.Changing.{Changed}
 use Rattle.moments.specs.Meaning.{GivenOpening, GivenChanging, Earned, numberIn, rightNumber, AddsUp, LentNamed}
-use Rattle.moments.specs.Mornings.{Morning, Held}
+use Rattle.moments.specs.Mornings.{Morning, standing, Held}
 use Rattle.steel.specs.declared.query.Query.{Query}
 use Rattle.steel.specs.Query.{InRange}
 use Rattle.steel.specs.Area.{Fits}
-use Rattle.steel.specs.Steel.{steelOf}
+use Rattle.steel.specs.Steel.{SteelAnswer, steelOf}
 
 -- "Every input gets an answer: a floor file, a change, a panel or a steel query, however damaged. Nothing relies on the caller having looked first.
 -- A refusal carries its number from the table, and the lent floor and moment table keep what they held."
@@ -34,23 +36,29 @@ pub record DemandOne : Type 0 where
   pub change : {f c f′ : List ℕ} {l l′ : Lent} {a : Answer} → Changed f l c a f′ l′
       → GivenChanging f l c (a .refusal) × Earned a × (¬ (a .refusal ≡ 0) → (f′ ≡ f) × (l′ ≡ l))
   pub panel : (f : List ℕ) (x y : ℕ) → PanelAnswer f x y (panelOf f x y)
-  pub steel : (q : Query)
-      → ((steelOf q .refusal ≡ 11) ↔ ¬ InRange q)
-      × ((steelOf q .refusal ≡ 12) ↔ (InRange q × ((As : ℕ) → ¬ Fits q As)))
-      × (¬ (steelOf q .refusal ≡ 0) → steelOf q .value ≡ 0)
+  -- 11, 12 and 0 each exactly when, and 0 mm² where refused
+  pub steel : (q : Query) → SteelAnswer q (steelOf q)
+
+-- What verdict v and the table tell of floor f: which limits are broken; with none broken, every number that the rules give, of which the three add up;
+-- else zeros; and past the table what was lent.
+pub record Told (f : List ℕ) (l : Lent) (v : ℕ) (l′ : Lent) : Type 0 where
+  pub verdict : Broken f v
+  pub moments : Clear f → (p : Place) → Inside f p
+      → ((n : ℕ) → n < recordWidth → numberIn f (l′ .table) p n ≡ rightNumber f p n) × AddsUp f (l′ .table) p
+  pub none : ¬ Clear f → (p : Place) → Inside f p → (n : ℕ) → n < recordWidth → numberIn f (l′ .table) p n ≡ 0
+  pub past : (i : ℕ) → recordCount f * recordWidth ≤ i → getD (l′ .table) i 0 ≡ getD (l .table) i 0
 
 -- "A floor is accepted exactly when document 01's rules accept it. The verdict names exactly the limits that are broken, and whether the slab is
 -- too thin. With none broken and the slab thick enough, each beam, slab and middle strip moment is the one the rules give, and the three add up to
 -- their section exactly. Steel for a query in range is the least whole area that carries the moment within the steel limits, refused exactly when
 -- there is none."
 pub record DemandTwo : Type 0 where
-  pub accepted : (f : List ℕ) → (refusal f ≡ 0) ↔ Given 0 f
-  pub verdict-opening : {f : List ℕ} {l l′ : Lent} {a : Answer} → Opened f l a l′ → a .refusal ≡ 0 → Broken f (a .value)
-  pub verdict-change : {f c f′ : List ℕ} {l l′ : Lent} {a : Answer} → Changed f l c a f′ l′ → a .refusal ≡ 0 → Broken f′ (a .value)
-  pub moments : {f : List ℕ} {l l′ : Lent} {a : Answer} → Opened f l a l′ → a .refusal ≡ 0 → a .value ≡ 0
-      → (p : Place) → Inside f p → ((n : ℕ) → n < recordWidth → numberIn f (l′ .table) p n ≡ rightNumber f p n) × AddsUp f (l′ .table) p
+  pub accepted : {f : List ℕ} {l l′ : Lent} {a : Answer} → Opened f l a l′ → Lodged f l → (a .refusal ≡ 0) ↔ Given 0 f
+  pub opening : {f : List ℕ} {l l′ : Lent} {a : Answer} → Opened f l a l′ → a .refusal ≡ 0 → Told f l (a .value) l′
+  pub change : {f c f′ : List ℕ} {l l′ : Lent} {a : Answer} → Changed f l c a f′ l′ → a .refusal ≡ 0 → Broken f′ (a .value)
   pub steel : (q : Query) → InRange q
-      → ((steelOf q .refusal ≡ 12) ↔ ((As : ℕ) → ¬ Fits q As))
+      → ((steelOf q .refusal ≡ 0) ↔ ((As : ℕ) × Fits q As))
+      × ((steelOf q .refusal ≡ 12) ↔ ((As : ℕ) → ¬ Fits q As))
       × (steelOf q .refusal ≡ 0 → Least (Fits q) (steelOf q .value))
 
 -- "Start from an accepted floor whose table was filled by the program and make any run of changes, refused ones among them, with nobody else writing
@@ -60,5 +68,8 @@ pub record DemandTwo : Type 0 where
 pub record DemandThree : Type 0 where
   pub morning : {f f′ : List ℕ} {l l₁ l′ : Lent} {a : Answer} {cs : List (List ℕ)} {rs : List Answer}
       → Opened f l a l₁ → a .refusal ≡ 0 → Morning f l₁ cs rs f′ l′ → Held f l cs rs f′ l′
+  -- so at its end the verdict that stands and the table tell of the floor as it then is
+  pub afterwards : {f f′ : List ℕ} {l l₁ l′ : Lent} {a : Answer} {cs : List (List ℕ)} {rs : List Answer}
+      → Opened f l a l₁ → a .refusal ≡ 0 → Morning f l₁ cs rs f′ l′ → Told f′ l (standing (a .value) rs) l′
   pub written : {f c f′ : List ℕ} {l l′ : Lent} {a : Answer} → Changed f l c a f′ l′
-      → a .refusal ≡ 0 → verdict f ≡ 0 → verdict f′ ≡ 0 → LentNamed f′ (changeKind c) (changeIndex c) l l′
+      → a .refusal ≡ 0 → Clear f → Clear f′ → LentNamed f′ (changeKind c) (changeIndex c) l l′

@@ -1,0 +1,87 @@
+-- Two floors written out, so that the promises are seen to be about something. proofs/ExamplesHold shows what is said of them, by computing.
+-- Assumes nothing.
+use Prim.Native.Nat.{ℕ, zero, suc, _/_, _%_}
+use mathlib.Core.List.{List, [], _∷_, _++_}
+use mathlib.Core.Path.{_≡_}
+use Rattle.floor.specs.Refusal.{refusal}
+use Rattle.limits.specs.Limits.{verdict}
+use Rattle.frames.specs.Table.{recordAt}
+use Rattle.answers.specs.declared.Answer.{Answer}
+use Rattle.answers.specs.Answers.{answer}
+use Rattle.moments.specs.Lent.{Lent}
+use Rattle.moments.specs.Tables.{Lodged}
+use Rattle.moments.specs.Opening.{Opened}
+
+-- ---- how a file is put together
+
+-- n in k bytes, the lowest first
+abbrev bytes : ℕ → ℕ → List ℕ
+bytes zero n = []
+bytes (suc k) n = n % 256 ∷ bytes k (n / 256)
+
+-- "kind and index in two bytes each, then a, b and c in four"
+abbrev entry : ℕ → ℕ → ℕ → ℕ → ℕ → List ℕ
+entry kind index a b c = bytes 2 kind ++ bytes 2 index ++ bytes 4 a ++ bytes 4 b ++ bytes 4 c
+
+-- a record's a and b
+pub record Pair : Type 0 where
+  pub a : ℕ
+  pub b : ℕ
+
+abbrev by : ℕ → ℕ → Pair
+by a b = record { a = a; b = b }
+
+-- records of one kind from index i on: by a and b, and by a alone
+abbrev entries : ℕ → ℕ → List Pair → List ℕ
+entries kind i [] = []
+entries kind i (p ∷ ps) = entry kind i (p .a) (p .b) 0 ++ entries kind (suc i) ps
+
+abbrev spans : ℕ → ℕ → List ℕ → List ℕ
+spans kind i [] = []
+spans kind i (l ∷ ls) = entry kind i l 0 0 ++ spans kind (suc i) ls
+
+-- n alike before others
+abbrev times : ℕ → Pair → List Pair → List Pair
+times zero p ps = ps
+times (suc n) p ps = p ∷ times n p ps
+
+-- ---- the floors
+
+-- 01: "One bay each way, spans 4,000, t 200, fc 30, fy 420, D 5,000, L 2,000, columns 400, sides 0, no beams, no offsets (14 records)"
+abbrev pub oneBay : List ℕ
+oneBay =
+    entry 1 0 1 1 200 ++ entry 2 0 30 420 0 ++ entry 3 0 5000 2000 0 ++ entry 4 0 400 400 0
+    ++ spans 5 0 (4000 ∷ []) ++ spans 6 0 (4000 ∷ []) ++ entries 7 0 (times 2 (by 0 0) []) ++ entries 8 0 (times 2 (by 0 0) [])
+    ++ entries 9 0 (times 4 (by 0 0) [])
+
+-- the garage of example/garage.txt: five bays by four, beams everywhere, two columns off their lines
+abbrev pub garage : List ℕ
+garage =
+    entry 1 0 5 4 200 ++ entry 2 0 30 420 0 ++ entry 3 0 7200 5000 0 ++ entry 4 0 600 500 0
+    ++ spans 5 0 (6600 ∷ 7200 ∷ 7500 ∷ 7200 ∷ 6600 ∷ []) ++ spans 6 0 (6000 ∷ 7000 ∷ 7000 ∷ 6400 ∷ [])
+    ++ entries 7 0 (by 400 700 ∷ times 3 (by 350 650) (by 400 700 ∷ []))
+    ++ entries 8 0 (by 400 700 ∷ by 350 600 ∷ by 380 650 ∷ by 380 650 ∷ by 350 600 ∷ by 400 700 ∷ [])
+    ++ entries 9 0 (by 0 0 ∷ by 0 0 ∷ by 250 0 ∷ times 6 (by 0 0) (by 150 200 ∷ times 20 (by 0 0) []))
+
+-- ---- what is said of them
+
+-- floor f is accepted, its verdict is v, and opening it answers so wherever its table has room
+pub record Example (f : List ℕ) (v : ℕ) : Type 0 where
+  pub accepted : refusal f ≡ 0
+  pub judged : verdict f ≡ v
+  pub opens : {l l′ : Lent} {a : Answer} → Opened f l a l′ → Lodged f l → a ≡ answer 0 v
+
+-- the first span of the southern frame: Mo, then low end, between and high end, each as total, column, middle, beam and slab
+abbrev pub firstSpan : List ℕ
+firstSpan =
+    243360
+    ∷ 3893760 ∷ 3435853 ∷ 457907 ∷ 2920475 ∷ 515378
+    ∷ 13871520 ∷ 10782332 ∷ 3089188 ∷ 9164982 ∷ 1617350
+    ∷ 17035200 ∷ 13241460 ∷ 3793740 ∷ 11255241 ∷ 1986219
+    ∷ []
+
+pub record Examples : Type 0 where
+  -- 01: "prints only `0 1`"
+  pub one-bay : Example oneBay 1
+  pub five-by-four : Example garage 0
+  pub first : recordAt garage 0 ≡ firstSpan
