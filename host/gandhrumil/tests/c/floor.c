@@ -1,0 +1,63 @@
+#include "floor.h"
+
+#include <string.h>
+
+static void little_endian(uint8_t *at, int bytes, uint32_t value)
+{
+    for (int i = 0; i < bytes; i++)
+        at[i] = (uint8_t)(value >> (8 * i));
+}
+
+void write_record(uint8_t *record, uint32_t kind, uint32_t index, uint32_t a, uint32_t b, uint32_t c)
+{
+    little_endian(record, 2, kind);
+    little_endian(record + 2, 2, index);
+    little_endian(record + 4, 4, a);
+    little_endian(record + 8, 4, b);
+    little_endian(record + 12, 4, c);
+}
+
+void set(floor_file *floor, size_t record, uint32_t a, uint32_t b, uint32_t c)
+{
+    uint8_t *at = floor->bytes + RECORD_BYTES * record;
+    little_endian(at + 4, 4, a);
+    little_endian(at + 8, 4, b);
+    little_endian(at + 12, 4, c);
+}
+
+static void append(floor_file *floor, uint32_t kind, uint32_t index, uint32_t a, uint32_t b, uint32_t c)
+{
+    write_record(floor->bytes + floor->len, kind, index, a, b, c);
+    floor->len += RECORD_BYTES;
+}
+
+static void append_alike(floor_file *floor, uint32_t kind, uint32_t count, uint32_t a)
+{
+    for (uint32_t index = 0; index < count; index++)
+        append(floor, kind, index, a, 0, 0);
+}
+
+static void append_beams(floor_file *floor, uint32_t kind, uint32_t lines, layout beams)
+{
+    for (uint32_t line = 0; line < lines; line++) {
+        int outer = line == 0 || line == lines - 1;
+        int beam = beams == BEAMS_EVERYWHERE || (beams == EDGE_BEAMS && outer);
+        append(floor, kind, line, beam ? 300 : 0, beam ? 600 : 0, 0);
+    }
+}
+
+floor_file square(uint32_t bays, layout beams)
+{
+    floor_file floor;
+    memset(&floor, 0, sizeof floor);
+    append(&floor, 1, 0, bays, bays, 200);
+    append(&floor, 2, 0, 30, 420, 0);
+    append(&floor, 3, 0, 5000, 2000, 0);
+    append(&floor, 4, 0, 400, 400, 0);
+    append_alike(&floor, 5, bays, 6000);
+    append_alike(&floor, 6, bays, 6000);
+    append_beams(&floor, 7, bays + 1, beams);
+    append_beams(&floor, 8, bays + 1, beams);
+    append_alike(&floor, 9, (bays + 1) * (bays + 1), 0);
+    return floor;
+}

@@ -1,0 +1,28 @@
+/* Floor files for the tests of the boundary (01, "The floor file"). C99 that is C++ too. */
+#ifndef FLOOR_H
+#define FLOOR_H
+
+#include <stddef.h>
+#include <stdint.h>
+
+/* 12 by 12 bays: four single records, 12 spans and 13 lines each way, 169 columns. */
+enum { RECORD_BYTES = 16, MOST_FLOOR_BYTES = RECORD_BYTES * (4 + 2 * 12 + 2 * 13 + 13 * 13) };
+
+typedef struct {
+    uint8_t bytes[MOST_FLOOR_BYTES];
+    size_t len;
+} floor_file;
+
+typedef enum { NO_BEAMS, EDGE_BEAMS, BEAMS_EVERYWHERE } layout;
+
+/* Writes a record: kind and index in two bytes each, then a, b and c. */
+void write_record(uint8_t *record, uint32_t kind, uint32_t index, uint32_t a, uint32_t b, uint32_t c);
+
+/* Square, with bays of 6,000, columns of 400 and beams of 300 by 600. An outer panel without beams asks for 5600/30 = 186.7 of
+ * the slab of 200, and no other for more: from 3 bays on the floor is clear. */
+floor_file square(uint32_t bays, layout beams);
+
+/* The floor with one record written anew; it keeps its kind and index. */
+void set(floor_file *floor, size_t record, uint32_t a, uint32_t b, uint32_t c);
+
+#endif
