@@ -1,16 +1,23 @@
 /* Gandhrumil: suspended concrete floors by the Direct Design Method of ACI 318-14.
  *
- * Link with libgandhrumil.a, which `rt staticlib gandhrumil` proves and writes to target/staticlib (x86-64).
+ * Link with libgandhrumil.a, which `rt staticlib gandhrumil` proves and writes to target/staticlib (x86-64). Of the C library it
+ * needs memcpy and memset, and nothing else.
  *
- * Every call takes any bytes, any lengths and any numbers, and always returns: nothing has to be looked at first. A pointer may be
- * anything, NULL too, where its length is 0. The buffers of one call must not overlap, and nobody else may write to them during it.
- * Nothing is kept between calls, nothing is allocated, and a call touches no memory but the buffers lent to it.
+ * Every call takes any bytes, any lengths and any numbers, and always returns: nothing has to be looked at first. A length counts
+ * what its pointer points to: bytes of a floor or a change, numbers of a table. A pointer may be anything, NULL too, where its
+ * length is 0. A table whose length is not 0 must be aligned for uint32_t; a floor and a change may start at any address. The
+ * buffers of one call must not overlap, and nobody else may write to them during it.
+ * Nothing is kept between calls, nothing is allocated, and a call touches no memory but its stack and the buffers lent to it.
  */
 #ifndef GANDHRUMIL_H
 #define GANDHRUMIL_H
 
 #include <stddef.h>
 #include <stdint.h>
+
+/* A call uses less than GANDHRUMIL_STACK bytes of stack. Measured on floors of 12 by 12 bays, clear and not, the deepest uses less
+ * than 6 KiB, on aarch64 and, under an emulator, on x86-64; the rest is margin. */
+#define GANDHRUMIL_STACK 16384
 
 #ifdef __cplusplus
 extern "C" {

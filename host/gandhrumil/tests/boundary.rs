@@ -53,3 +53,8 @@ fn the_four_calls_from_c() {
 fn the_four_calls_from_cpp() {
     run("figures", CPP);
 }
+
+#[test]
+fn no_call_uses_more_stack_than_the_header_says() {
+    run("stack", C);
+}
