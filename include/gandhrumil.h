@@ -15,6 +15,9 @@
 #include <stddef.h>
 #include <stdint.h>
 
+/* Rises by 1 with each change of what is declared here and each change of an answer. docs/CHANGES.md says what a caller must do. */
+#define GANDHRUMIL_VERSION 1
+
 /* A call uses less than GANDHRUMIL_STACK bytes of stack. Measured on floors of 12 by 12 bays, clear and not, the deepest uses less
  * than 6 KiB, on aarch64 and, under an emulator, on x86-64; the rest is margin. */
 #define GANDHRUMIL_STACK 16384

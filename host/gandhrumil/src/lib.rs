@@ -6,6 +6,9 @@ mod calls;
 
 pub use calls::Answer;
 
+/// `GANDHRUMIL_VERSION` of the header whose calls these are (docs/CHANGES.md).
+pub const VERSION: u32 = 1;
+
 /// Opens a floor and fills its table.
 pub fn open(floor: &[u8], table: &mut [u32]) -> Answer {
     // SAFETY: both slices are lent for the call, with their own lengths, and cannot overlap.

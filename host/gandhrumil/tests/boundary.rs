@@ -1,6 +1,7 @@
 //! What `include/gandhrumil.h` says to a program in C or C++, tried by programs in C and C++ that are compiled against it and linked
 //! with the static library. They are compiled by `cc`, which rustc itself links with, and by `c++`.
 
+use std::fs;
 use std::path::{Path, PathBuf};
 use std::process::Command;
 
@@ -57,4 +58,19 @@ fn the_four_calls_from_cpp() {
 #[test]
 fn no_call_uses_more_stack_than_the_header_says() {
     run("stack", C);
+}
+
+/// The number after `words` in the first line of the file that starts with them.
+fn first_number(file: &str, words: &str) -> u32 {
+    let text = fs::read_to_string(root().join(file)).unwrap();
+    let line = text.lines().find_map(|line| line.strip_prefix(words));
+    let number = line.unwrap_or_else(|| panic!("{file} has no line with {words}"));
+    number.parse().unwrap()
+}
+
+#[test]
+fn one_version() {
+    let header = first_number("include/gandhrumil.h", "#define GANDHRUMIL_VERSION ");
+    assert_eq!(gandhrumil::VERSION, header);
+    assert_eq!(first_number("docs/CHANGES.md", "## Version "), header);
 }
