@@ -71,9 +71,7 @@ fn the_command_prints_the_sheet() {
 /// The folder of the example, and the commands to run beside it.
 const EXAMPLE: &str = concat!(env!("CARGO_MANIFEST_DIR"), "/../../example");
 const RENEW: &str = "renew both files, in the folder that holds host and example, with \
-    cargo run --manifest-path host/Cargo.toml --offline --release -p cases -- garage > example/garage.floor and \
-    cargo run --manifest-path host/Cargo.toml --offline --release -p cases -- sheet < example/garage.floor > \
-    example/garage.sheet";
+    cargo cases garage > example/garage.floor and cargo cases sheet < example/garage.floor > example/garage.sheet";
 
 fn kept(file: &str) -> Vec<u8> {
     let kept = fs::read(Path::new(EXAMPLE).join(file));
