@@ -6,10 +6,10 @@ use mathlib.Core.Logic.{_↔_}
 use mathlib.Core.Path.{_≡_, sym, subst, _∙_}
 use Rattle.floor.specs.Refusal.{refusal, Given}
 use Rattle.floor.proofs.Meaning.{given}
-use Rattle.changes.specs.Change.{changeKind, changeIndex}
+use Rattle.changes.specs.Change.{changeKind, changeIndex, changed}
 use Rattle.answers.specs.declared.Answer.{Answer}
 use Rattle.limits.specs.Meaning.{Broken, Clear}
-use Rattle.limits.proofs.Meaning.{broken}
+use Rattle.limits.proofs.Meaning.{broken, broken-one}
 use Rattle.verdict.proofs.Answers.{panel-answer}
 use Rattle.moments.specs.Lent.{Lent}
 use Rattle.moments.specs.Tables.{Lodged}
@@ -18,7 +18,7 @@ use Rattle.moments.specs.Changing.{Changed}
 use Rattle.moments.specs.Meaning.{GivenOpening, GivenChanging, LentOf, LentNamed, OpeningSays, ChangeSays}
 use Rattle.moments.specs.Mornings.{Morning, standing}
 use Rattle.moments.proofs.Room.{open-parts, open-whole, given-opening}
-use Rattle.moments.proofs.Meaning.{earned, lent-of, opening-says, change-says}
+use Rattle.moments.proofs.Meaning.{earned, lent-of, lent-of-one, opening-says, change-says}
 use Rattle.moments.proofs.Sums.{adds-up}
 use Rattle.moments.proofs.Demand.{morning, at-its-end}
 use Rattle.steel.proofs.Answers.{steel-answer}
@@ -33,7 +33,16 @@ told accepted b lent =
       moments = λ clear p h. (table .stands clear p h, adds-up accepted clear table p h);
       none = table .broken;
       past = table .past;
+      same-length = table .same-length;
     }
+
+-- no second verdict and no second table tell it
+pub told-one : {f : List ℕ} {l u u′ : Lent} {v w : ℕ} → refusal f ≡ 0 → Told f l v u → Told f l w u′ → (v ≡ w) × (u ≡ u′)
+told-one {f} accepted p q = (broken-one (p .verdict) (q .verdict), lent-of-one f accepted (held p) (held q))
+  where
+    held : {l u : Lent} {v : ℕ} → Told f l v u → LentOf f l u
+    held x =
+        record { table = record { same-length = x .same-length; past = x .past; stands = λ clear p h. x .moments clear p h .0; broken = x .none } }
 
 -- ---- opening
 
@@ -83,6 +92,10 @@ module _ {f c f′ : List ℕ} {l l′ : Lent} {a : Answer} (o : Changed f l c a
   change-verdict : a .refusal ≡ 0 → Broken f′ (a .value)
   change-verdict z = rw (change .taken (taken z)) (change .answer .verdict (taken z))
 
+  change-stored : a .refusal ≡ 0 → (f′ ≡ changed f c) × (¬ (Clear f × Clear f′) → LentOf f′ l l′)
+  change-stored z =
+      let e = change .taken (taken z) in (e, λ no. rw e (change .whole (taken z) (λ both. no (both .0, rw e (both .1)))))
+
   change-written : a .refusal ≡ 0 → Clear f → Clear f′ → LentNamed f′ (changeKind c) (changeIndex c) l l′
   change-written z before after =
       let e = change .taken (taken z) in rw e (change .some (taken z) before (rw e at after))
@@ -117,4 +130,4 @@ demand-two =
     }
 
 pub demand-three : DemandThree
-demand-three = record { morning = morning; afterwards = afterwards; written = change-written }
+demand-three = record { morning = morning; afterwards = afterwards; stored = change-stored; written = change-written }

@@ -1,19 +1,24 @@
--- The two floors are as they are said to be: refusal, verdict and the first record by computing, and then what opening answers.
+-- What is said of the examples: refusals, verdicts and the first record by computing, and from them what opening and the change answer.
 -- Assumes nothing.
-use Prim.Native.Nat.{ℕ}
+use Prim.Native.Nat.{ℕ, _+_, _*_, _<_, zero-le}
 use mathlib.Core.List.{List}
-use mathlib.Core.Path.{_≡_, refl, _∙_}
+use mathlib.Core.Path.{_≡_, refl, ap, subst, _∙_}
+use native.Mathlib.Omega.{arith}
+use lib.ListN.{getD}
+use Rattle.changes.specs.Change.{changeOk, changed}
+use Rattle.changes.specs.Refusal.{changeChecks, changeRefusal}
 use Rattle.floor.specs.Refusal.{countOk, everyRecord, firstOk, floorChecks, kindOk, lengthOk, recordOk, refusal, valueChecks}
-use Rattle.frames.specs.Table.{viewAt, recordAt}
+use Rattle.frames.specs.Table.{viewIn}
 use Rattle.layouts.specs.Layouts.{beamsOk, keeps, kept, keptAlong, layoutOf}
 use Rattle.limits.specs.Limits.{adjoining, astray, astrayColumn, few, heavy, slenderPanel, somePair, sumOf, thinPanel, unbalanced, unequalPanel, uneven, verdict}
 use Rattle.lines.specs.Lines.{below, clearSpan, lineAlpha, outerPanel, pairAlpha, panelPlace, panelThickness, panelView}
 use Rattle.lines.specs.Slabs.{slabOf}
 use Rattle.numbers.specs.Chains.{tried}
+use Rattle.numbers.specs.Records.{put}
 use Rattle.numbers.specs.Tests.{until}
 use Rattle.plan.specs.Fields.{le16, le32}
 use Rattle.plan.specs.Plan.{bays, offset, value}
-use Rattle.records.specs.Kinds.{countOf, startOf, total, unlistedZero}
+use Rattle.records.specs.Kinds.{changeable, countOf, startOf, total, unlistedZero}
 use Rattle.records.specs.Ranges.{beamOk, columnOk, columnsOk, loadsOk, materialsOk, offsetOk, sidesOk, sizesOk, spanOk, valuesOk}
 use Rattle.spans.specs.Record.{betweenStrips, endStrips, outerPart, percentsOf, recordOf}
 use Rattle.spans.specs.Views.{highEnd, lineView, lowEnd, outerEnd, viewOf}
@@ -24,20 +29,57 @@ use Rattle.strips.specs.EndTable.{endPercent, endRow}
 use Rattle.strips.specs.Moments.{clearLength, staticMoment}
 use Rattle.strips.specs.Ratios.{spanRatio, stiffnessRatio, torsionRatio}
 use Rattle.strips.specs.Strips.{beamShare, outerNegative, part, split}
-use Rattle.tables.specs.Places.{placeOf}
 use Rattle.thickness.specs.LeastThickness.{divisor, leastThickness, middling, stiff, tabled}
-use Rattle.moments.proofs.Room.{open-whole}
-use Rattle.gandhrumil.specs.Examples.{oneBay, garage, firstSpan, Example, Examples}
+use Rattle.floor.proofs.Meaning.{given}
+use Rattle.limits.specs.Meaning.{Broken}
+use Rattle.limits.proofs.Meaning.{broken, clear-is}
+use Rattle.plan.specs.declared.ways.Way.the-variants.{X}
+use Rattle.tables.specs.Width.{recordWidth}
+use Rattle.tables.specs.Places.{Place, numberOf}
+use Rattle.answers.specs.declared.Answer.{Answer}
+use Rattle.moments.specs.Lent.{Lent}
+use Rattle.moments.specs.Tables.{Lodged}
+use Rattle.moments.specs.Opening.{Opened}
+use Rattle.moments.proofs.Room.{open-whole, change-whole}
+use Rattle.gandhrumil.specs.Examples.{oneBay, garage, lighter, firstSpan, Example, Examples}
+use Rattle.gandhrumil.proofs.Demands.{demand-two}
 
-computed : (refusal oneBay ≡ 0) × (verdict oneBay ≡ 1) × (refusal garage ≡ 0) × (verdict garage ≡ 0) × (recordAt garage 0 ≡ firstSpan)
-unfolding countOk everyRecord firstOk floorChecks kindOk lengthOk recordOk refusal valueChecks viewAt beamsOk keeps kept keptAlong layoutOf adjoining astray astrayColumn few heavy slenderPanel somePair sumOf thinPanel unbalanced unequalPanel uneven verdict below clearSpan lineAlpha outerPanel pairAlpha panelPlace panelThickness panelView slabOf tried until le16 le32 bays offset value countOf startOf total unlistedZero beamOk columnOk columnsOk loadsOk materialsOk offsetOk sidesOk sizesOk spanOk valuesOk betweenStrips endStrips outerPart percentsOf recordOf highEnd lineView lowEnd outerEnd viewOf spanWork alpha columnStripWidth frameWidth transverseSpan edgeTorsion flange inertia torsion endPercent endRow clearLength staticMoment spanRatio stiffnessRatio torsionRatio beamShare outerNegative part split placeOf divisor leastThickness middling stiff tabled
-computed = (refl, refl, refl, refl, refl)
+-- ---- by computing
+
+abbrev first : Place
+first = record { way = X; line = 0; span = 0 }
+
+computed : (refusal oneBay ≡ 0) × (verdict oneBay ≡ 1) × (refusal garage ≡ 0) × (verdict garage ≡ 0) × (changeRefusal garage lighter ≡ 0)
+    × (refusal (changed garage lighter) ≡ 0) × (verdict (changed garage lighter) ≡ 0) × (recordOf (viewIn garage first) ≡ firstSpan) × (bays garage X ≡ 5)
+unfolding changeOk changed changeChecks changeRefusal countOk everyRecord firstOk floorChecks kindOk lengthOk recordOk refusal valueChecks beamsOk keeps kept keptAlong layoutOf adjoining astray astrayColumn few heavy slenderPanel somePair sumOf thinPanel unbalanced unequalPanel uneven verdict below clearSpan lineAlpha outerPanel pairAlpha panelPlace panelThickness panelView slabOf tried put until le16 le32 bays offset value changeable countOf startOf total unlistedZero beamOk columnOk columnsOk loadsOk materialsOk offsetOk sidesOk sizesOk spanOk valuesOk betweenStrips endStrips outerPart percentsOf recordOf highEnd lineView lowEnd outerEnd viewOf spanWork alpha columnStripWidth frameWidth transverseSpan edgeTorsion flange inertia torsion endPercent endRow clearLength staticMoment spanRatio stiffnessRatio torsionRatio beamShare outerNegative part split divisor leastThickness middling stiff tabled
+computed = (refl, refl, refl, refl, refl, refl, refl, refl, refl)
+
+-- ---- from that
 
 example : {f : List ℕ} {v : ℕ} → refusal f ≡ 0 → verdict f ≡ v → Example f v
 example {f} e j =
-    record { accepted = e; judged = j; opens = λ {l = l} o room. o .answer ∙ rw (open-whole f l e room, j) }
+    record {
+      accepted = given 0 f .0 e;
+      judged = subst (Broken f) j (broken f e);
+      opens = λ {l = l} o room. o .answer ∙ rw (open-whole f l e room, j);
+    }
+
+opened-first : refusal garage ≡ 0 → verdict garage ≡ 0 → recordOf (viewIn garage first) ≡ firstSpan → bays garage X ≡ 5 → {l l′ : Lent} {a : Answer} → Opened garage l a l′ → Lodged garage l
+    → (n : ℕ) → n < recordWidth → getD (l′ .table) n 0 ≡ getD firstSpan n 0
+opened-first e j numbers five {l′ = l′} o room n h =
+    let told = demand-two .opening o (ap (λ (x : Answer). x .refusal) (example e j .opens o room)) in
+    let at : n ≡ numberOf garage first * recordWidth + n = omega arith in
+    ap (λ (i : ℕ). getD (l′ .table) i 0) at
+    ∙ told .moments (clear-is (broken garage e) .0 j) first (record { line = zero-le; span = omega (arith, five) }) .0 n h
+    ∙ ap (λ (r : List ℕ). getD r n 0) numbers
 
 pub examples-hold : Examples
 examples-hold =
-    let (one-accepted, one-verdict, garage-accepted, garage-verdict, first) = computed in
-    record { one-bay = example one-accepted one-verdict; five-by-four = example garage-accepted garage-verdict; first = first }
+    let (one-accepted, one-verdict, accepted, clear, taken, accepted-after, clear-after, numbers, five) = computed in
+    record {
+      one-bay = example one-accepted one-verdict;
+      five-by-four = example accepted clear;
+      first = opened-first accepted clear numbers five;
+      taken = λ {l = l} o room. o .answer ∙ rw (change-whole garage l lighter taken room, clear-after);
+      after = example accepted-after clear-after;
+    }

@@ -7,10 +7,10 @@ use Prim.Native.Nat.{ℕ, _*_, _≤_, _<_}
 use mathlib.Core.List.{List}
 use mathlib.Core.Logic.{_↔_}
 use mathlib.Core.Path.{_≡_}
-use lib.ListN.{getD}
+use lib.ListN.{length, getD}
 use Rattle.numbers.specs.Least.{Least}
 use Rattle.floor.specs.Refusal.{Given}
-use Rattle.changes.specs.Change.{changeKind, changeIndex}
+use Rattle.changes.specs.Change.{changeKind, changeIndex, changed}
 use Rattle.answers.specs.declared.Answer.{Answer}
 use Rattle.limits.specs.Meaning.{Broken, Clear}
 use Rattle.verdict.specs.Answers.{panelOf, PanelAnswer}
@@ -20,7 +20,7 @@ use Rattle.moments.specs.Lent.{Lent}
 use Rattle.moments.specs.Tables.{Lodged}
 use Rattle.moments.specs.Opening.{Opened}
 use Rattle.moments.specs.Changing.{Changed}
-use Rattle.moments.specs.Meaning.{GivenOpening, GivenChanging, Earned, numberIn, rightNumber, AddsUp, LentNamed}
+use Rattle.moments.specs.Meaning.{GivenOpening, GivenChanging, Earned, numberIn, rightNumber, AddsUp, LentOf, LentNamed}
 use Rattle.moments.specs.Mornings.{Morning, standing, Held}
 use Rattle.steel.specs.declared.query.Query.{Query}
 use Rattle.steel.specs.Query.{InRange}
@@ -29,24 +29,25 @@ use Rattle.steel.specs.Steel.{SteelAnswer, steelOf}
 
 -- "Every input gets an answer: a floor file, a change, a panel or a steel query, however damaged. Nothing relies on the caller having looked first.
 -- A refusal carries its number from the table, and the lent floor and moment table keep what they held."
--- Bytes, slices and numbers are any; that there is an answer is that the functions ask nothing and return.
+-- Any bytes, slices and numbers are taken: there is always an answer, because the exported functions have no `requires` and every function returns.
 pub record DemandOne : Type 0 where
   pub opening : {f : List ℕ} {l l′ : Lent} {a : Answer} → Opened f l a l′
       → GivenOpening f l (a .refusal) × Earned a × (¬ (a .refusal ≡ 0) → l′ ≡ l)
   pub change : {f c f′ : List ℕ} {l l′ : Lent} {a : Answer} → Changed f l c a f′ l′
       → GivenChanging f l c (a .refusal) × Earned a × (¬ (a .refusal ≡ 0) → (f′ ≡ f) × (l′ ≡ l))
   pub panel : (f : List ℕ) (x y : ℕ) → PanelAnswer f x y (panelOf f x y)
-  -- 11, 12 and 0 each exactly when, and 0 mm² where refused
+  -- each of 11, 12 and 0 exactly when 01 says, and 0 mm² where refused
   pub steel : (q : Query) → SteelAnswer q (steelOf q)
 
--- What verdict v and the table tell of floor f: which limits are broken; with none broken, every number that the rules give, of which the three add up;
--- else zeros; and past the table what was lent.
+-- What verdict v and the table tell of floor f: which limits are broken; if none is, every number is the one that the rules give, and the three
+-- parts of each section add up; otherwise all numbers are 0. Numbers past the table are as they were lent.
 pub record Told (f : List ℕ) (l : Lent) (v : ℕ) (l′ : Lent) : Type 0 where
   pub verdict : Broken f v
   pub moments : Clear f → (p : Place) → Inside f p
       → ((n : ℕ) → n < recordWidth → numberIn f (l′ .table) p n ≡ rightNumber f p n) × AddsUp f (l′ .table) p
   pub none : ¬ Clear f → (p : Place) → Inside f p → (n : ℕ) → n < recordWidth → numberIn f (l′ .table) p n ≡ 0
   pub past : (i : ℕ) → recordCount f * recordWidth ≤ i → getD (l′ .table) i 0 ≡ getD (l .table) i 0
+  pub same-length : length (l′ .table) ≡ length (l .table)
 
 -- "A floor is accepted exactly when document 01's rules accept it. The verdict names exactly the limits that are broken, and whether the slab is
 -- too thin. With none broken and the slab thick enough, each beam, slab and middle strip moment is the one the rules give, and the three add up to
@@ -68,8 +69,11 @@ pub record DemandTwo : Type 0 where
 pub record DemandThree : Type 0 where
   pub morning : {f f′ : List ℕ} {l l₁ l′ : Lent} {a : Answer} {cs : List (List ℕ)} {rs : List Answer}
       → Opened f l a l₁ → a .refusal ≡ 0 → Morning f l₁ cs rs f′ l′ → Held f l cs rs f′ l′
-  -- so at its end the verdict that stands and the table tell of the floor as it then is
+  -- so at its end the last verdict given and the table describe the floor as it then is
   pub afterwards : {f f′ : List ℕ} {l l₁ l′ : Lent} {a : Answer} {cs : List (List ℕ)} {rs : List Answer}
       → Opened f l a l₁ → a .refusal ≡ 0 → Morning f l₁ cs rs f′ l′ → Told f′ l (standing (a .value) rs) l′
+  -- each change by itself, over any lent table, right or wrong: the floor is the changed one, and where a verdict is not clear the table is its whole
+  pub stored : {f c f′ : List ℕ} {l l′ : Lent} {a : Answer} → Changed f l c a f′ l′
+      → a .refusal ≡ 0 → (f′ ≡ changed f c) × (¬ (Clear f × Clear f′) → LentOf f′ l l′)
   pub written : {f c f′ : List ℕ} {l l′ : Lent} {a : Answer} → Changed f l c a f′ l′
       → a .refusal ≡ 0 → Clear f → Clear f′ → LentNamed f′ (changeKind c) (changeIndex c) l l′

@@ -1,16 +1,19 @@
--- Two floors written out, so that the promises are seen to be about something. proofs/ExamplesHold shows what is said of them, by computing.
+-- Two floors and a change written out, to show that the promises are not vacuous. proofs/ExamplesHold shows what is said of them, by computing.
 -- Assumes nothing.
-use Prim.Native.Nat.{ℕ, zero, suc, _/_, _%_}
+use Prim.Native.Nat.{ℕ, zero, suc, _/_, _%_, _<_}
 use mathlib.Core.List.{List, [], _∷_, _++_}
 use mathlib.Core.Path.{_≡_}
-use Rattle.floor.specs.Refusal.{refusal}
-use Rattle.limits.specs.Limits.{verdict}
-use Rattle.frames.specs.Table.{recordAt}
+use lib.ListN.{getD}
+use Rattle.floor.specs.Refusal.{Given}
+use Rattle.changes.specs.Change.{changed}
+use Rattle.limits.specs.Meaning.{Broken}
+use Rattle.tables.specs.Width.{recordWidth}
 use Rattle.answers.specs.declared.Answer.{Answer}
 use Rattle.answers.specs.Answers.{answer}
 use Rattle.moments.specs.Lent.{Lent}
 use Rattle.moments.specs.Tables.{Lodged}
 use Rattle.moments.specs.Opening.{Opened}
+use Rattle.moments.specs.Changing.{Changed}
 
 -- ---- how a file is put together
 
@@ -19,7 +22,7 @@ abbrev bytes : ℕ → ℕ → List ℕ
 bytes zero n = []
 bytes (suc k) n = n % 256 ∷ bytes k (n / 256)
 
--- "kind and index in two bytes each, then a, b and c in four"
+-- a record: kind and index in two bytes each, then a, b and c in four
 abbrev entry : ℕ → ℕ → ℕ → ℕ → ℕ → List ℕ
 entry kind index a b c = bytes 2 kind ++ bytes 2 index ++ bytes 4 a ++ bytes 4 b ++ bytes 4 c
 
@@ -40,7 +43,7 @@ abbrev spans : ℕ → ℕ → List ℕ → List ℕ
 spans kind i [] = []
 spans kind i (l ∷ ls) = entry kind i l 0 0 ++ spans kind (suc i) ls
 
--- n alike before others
+-- n copies of p, then ps
 abbrev times : ℕ → Pair → List Pair → List Pair
 times zero p ps = ps
 times (suc n) p ps = p ∷ times n p ps
@@ -63,12 +66,16 @@ garage =
     ++ entries 8 0 (by 400 700 ∷ by 350 600 ∷ by 380 650 ∷ by 380 650 ∷ by 350 600 ∷ by 400 700 ∷ [])
     ++ entries 9 0 (by 0 0 ∷ by 0 0 ∷ by 250 0 ∷ times 6 (by 0 0) (by 150 200 ∷ times 20 (by 0 0) []))
 
+-- and a change to it: less load
+abbrev pub lighter : List ℕ
+lighter = entry 3 0 7000 4500 0
+
 -- ---- what is said of them
 
--- floor f is accepted, its verdict is v, and opening it answers so wherever its table has room
+-- floor f is accepted, v names what is broken, and opening it answers so wherever its table has room
 pub record Example (f : List ℕ) (v : ℕ) : Type 0 where
-  pub accepted : refusal f ≡ 0
-  pub judged : verdict f ≡ v
+  pub accepted : Given 0 f
+  pub judged : Broken f v
   pub opens : {l l′ : Lent} {a : Answer} → Opened f l a l′ → Lodged f l → a ≡ answer 0 v
 
 -- the first span of the southern frame: Mo, then low end, between and high end, each as total, column, middle, beam and slab
@@ -81,7 +88,10 @@ firstSpan =
     ∷ []
 
 pub record Examples : Type 0 where
-  -- 01: "prints only `0 1`"
   pub one-bay : Example oneBay 1
   pub five-by-four : Example garage 0
-  pub first : recordAt garage 0 ≡ firstSpan
+  -- the first sixteen numbers of the table that opening leaves
+  pub first : {l l′ : Lent} {a : Answer} → Opened garage l a l′ → Lodged garage l → (n : ℕ) → n < recordWidth → getD (l′ .table) n 0 ≡ getD firstSpan n 0
+  -- a change that is taken, clear before and after
+  pub taken : {l l′ : Lent} {a : Answer} {f′ : List ℕ} → Changed garage l lighter a f′ l′ → Lodged garage l → a ≡ answer 0 0
+  pub after : Example (changed garage lighter) 0

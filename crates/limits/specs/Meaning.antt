@@ -36,11 +36,11 @@ abbrev pub Uneven : List ℕ → Type 0
 Uneven f = (d : Way) × UnevenAlong f d
 
 -- 8: "ten times an offset exceeds a span adjoining that column in its direction"
--- span s starts or ends at the columns k-th along it
+-- span s starts or ends at the k-th column along it
 abbrev pub Adjoins : ℕ → ℕ → Type 0
 Adjoins s k = (s ≡ k) ⊎ (s + 1 ≡ k)
 
--- a span along d that adjoins the columns k-th along d is shorter than n
+-- a span along d that adjoins the k-th column along d is shorter than n
 abbrev pub Exceeded : List ℕ → Way → ℕ → ℕ → Type 0
 Exceeded f d k n = (s : ℕ) × (s < bays f d) × Adjoins s k × (span f d s < n)
 
@@ -61,11 +61,11 @@ Unbalanced f =
     EachLine f (Beamed f)
     × SomePanel f (λ i j. Unequal (pairAlpha f X j * (span f Y j * span f Y j)) (pairAlpha f Y i * (span f X i * span f X i)))
 
--- 64: "t below some panel's least thickness": the slab's own thickness is not enough for that panel
+-- 64: "t below some panel's least thickness": the slab's own thickness is not enough for that panel; what is enough stays so for every greater t
 abbrev pub Thin : List ℕ → Type 0
 Thin f = SomePanel f (λ i j. ¬ PanelEnough f i j (thickness f))
 
--- "A sum of what is broken": v has the part 4, for one, exactly where limit 4 is broken, and no part but these
+-- "A sum of what is broken": for example, 4 is part of v exactly where limit 4 is broken; and v has no other parts
 pub record Broken (f : List ℕ) (v : ℕ) : Type 0 where
   pub one : (v % 2 ≡ 1) ↔ Few f
   pub two : (v / 2 % 2 ≡ 1) ↔ Slender f

@@ -58,6 +58,10 @@ pub change-parts : (f : List ℕ) (l : Lent) (c : List ℕ) → changeNumber f l
 unfolding changeNumber changingChecks changeRefusal
 change-parts f l c e = let h = both-zero (sound-change f c) _ e in (h .0, room-of f l (h .1))
 
+pub change-whole : (f : List ℕ) (l : Lent) (c : List ℕ) → changeRefusal f c ≡ 0 → Lodged f l → changeNumber f l c ≡ 0
+unfolding changeNumber changingChecks changeRefusal
+change-whole f l c e h = sym (decides (sound-change f c) (roomChecks f l) (sym e) refl (sym (room-is f l h)))
+
 -- ---- a number that was given stands, and else the room decides
 
 then-room : {xs : Chain} → Sound xs → (f : List ℕ) (l : Lent) {m n : ℕ} → m ≡ tried xs → n ≡ cond (eqb m 0) (roomRefusal f l) m

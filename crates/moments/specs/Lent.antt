@@ -1,4 +1,4 @@
--- What a caller lends beside the floor, as one thing: one more buffer is one more field here, and no statement has an argument more.
+-- What a caller lends beside the floor, as one thing: one more buffer is one more field here, and no statement gains an argument.
 -- Assumes nothing.
 use Prim.Native.Nat.{ℕ}
 use mathlib.Core.List.{List}

@@ -19,7 +19,8 @@ pub data Morning : List ℕ → Lent → List (List ℕ) → List Answer → Lis
   then : {f c f₁ f₂ : List ℕ} {l l₁ l₂ : Lent} {a : Answer} {cs : List (List ℕ)} {rs : List Answer}
       → Changed f l c a f₁ l₁ → Morning f₁ l₁ cs rs f₂ l₂ → Morning f l (c ∷ cs) (a ∷ rs) f₂ l₂
 
--- "the first one with each change not refused put in its place in turn", beside what was lent at the start
+-- "the first one with each change not refused put in its place in turn", beside what was lent at the start: of what is lent only the length counts
+-- for a refusal, and no call changes it
 abbrev pub placed : List ℕ → Lent → List (List ℕ) → List ℕ
 placed f l [] = f
 placed f l (c ∷ cs) = placed (floorAfter f l c) l cs
@@ -29,7 +30,7 @@ abbrev pub gave : List ℕ → Lent → List (List ℕ) → List Answer
 gave f l [] = []
 gave f l (c ∷ cs) = answered (changeNumber f l c) (verdict (floorAfter f l c)) ∷ gave (floorAfter f l c) l cs
 
--- the verdict that stands after a run of calls: the last one that no refusal came with, or v where there is none
+-- the verdict that stands after a run of calls: that of the last call that was not refused, or v if all were
 abbrev pub standing : ℕ → List Answer → ℕ
 standing v [] = v
 standing v (a ∷ rs) = standing (cond (eqb (a .refusal) 0) (a .value) v) rs

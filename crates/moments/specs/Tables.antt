@@ -15,7 +15,7 @@ use Rattle.tables.specs.Blank.{zeros}
 use Rattle.frames.specs.Table.{recordAt}
 use Rattle.moments.specs.Lent.{Lent}
 
--- "moments stand only while no limit is broken and the slab is thick enough"
+-- moments stand only while no limit is broken and the slab is thick enough
 abbrev pub clear : List ℕ → Bool
 clear f = eqb (verdict f) 0
 
