@@ -17,7 +17,8 @@ pub record Quotient (n d : ℕ) : Type 0 where
   pub positive : 0 < d
   pub room : n + d < 2 ^ 64
 
--- k + floor((p − q)/d), the floor toward minus infinity
+-- k + floor((p − q)/d) of the integers, the floor toward minus infinity, wherever that is not negative: where q ≤ k·d + p, for d above 0
+-- (proofs/Integers: plusFloor-is). For a larger q this is 0 and not that integer, because a difference of naturals stops at 0.
 abbrev pub plusFloor : ℕ → ℕ → ℕ → ℕ → ℕ
 plusFloor k p q d = (k * d + p - q) / d
 

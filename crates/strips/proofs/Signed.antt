@@ -9,6 +9,7 @@ use borrow.Author.Needs.{needs}
 use Rattle.numbers.specs.Rounding.{floorOf}
 use Rattle.numbers.proofs.Integers.{plusFloor-is, times-sub, sub-sub, diff}
 use Rattle.strips.specs.Asked.{Crossing, ShareRatios, OuterRatios}
+use Rattle.strips.specs.Meaning.{IsBetween, IsInnerNegative, IsOuterNegative}
 use Rattle.strips.specs.Strips.{part, between, innerNegative, outerNegative}
 use Rattle.strips.proofs.Parts.{part-reach, outer-reach}
 
@@ -21,16 +22,13 @@ module _ {A R : ℕ} (s : ShareRatios A R) where
       rw (diff crossover R, times-sub (3 * A) crossover R)
       (plusFloor-is base _ _ 100000 (lit< tt) (omega (arith, part-reach l s .0)))
 
-  pub between-is : pos (between A R) ≡ pos 6000 +ℤ floorOf (pos 3 *ℤ pos A *ℤ (pos 15000 -ℤ pos R)) 100000
+  pub between-is : IsBetween A R (between A R)
   between-is = part-is (search needs)
 
-  pub inner-negative-is : pos (innerNegative A R) ≡ pos 7500 +ℤ floorOf (pos 3 *ℤ pos A *ℤ (pos 10000 -ℤ pos R)) 100000
+  pub inner-negative-is : IsInnerNegative A R (innerNegative A R)
   inner-negative-is = part-is (search needs)
 
-pub outer-negative-is :
-    {A R B : ℕ} → OuterRatios A R B
-    → pos (outerNegative A R B)
-    ≡ pos 10000 +ℤ floorOf (pos B *ℤ (pos 12 *ℤ pos A *ℤ (pos 10000 -ℤ pos R) -ℤ pos 1000000000)) 10000000000
+pub outer-negative-is : {A R B : ℕ} → OuterRatios A R B → IsOuterNegative A R B (outerNegative A R B)
 unfolding outerNegative
 outer-negative-is {A} {R} {B} s =
     rw (diff 10000 R, times-sub (12 * A) 10000 R, sub-sub, times-sub B)

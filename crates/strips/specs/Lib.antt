@@ -3,3 +3,4 @@ pub mod Moments
 pub mod EndTable
 pub mod Ratios
 pub mod Strips
+pub mod Meaning

@@ -1,5 +1,6 @@
 -- "Moments": "Column strip parts of 10000, floors toward minus infinity", and a section total between the strips.
--- The parts are stated over the naturals; proofs/Signed shows that they are 01's own, over the integers.
+-- The parts are defined over the naturals, as they are computed; specs/Meaning says them over the integers, as 01 does, and proofs/Signed shows that
+-- the two agree.
 -- Assumes nothing.
 use mathlib.Core.Path.{_≡_}
 use Prim.Native.Nat.{ℕ, _+_, _-_, _*_, _/_, _≤_}
