@@ -43,7 +43,7 @@ fn has_record(b: Bays, k: u32, i: u32) -> bool
     both(changeable(k), i < count_of(b.x, b.y, k))
 }
 
-// 9, or the change fits a floor of these bays.
+// 9: whether the change fits a floor of these bays.
 fn change_ok(b: Bays, c: &[u8]) -> bool
     requires { ⌜ Small (b .x) (b .y) ⌝ }
     ensures { λ r. ⌜ r ≡ changeOk b (now (c .entry)) ⌝ }

@@ -10,7 +10,7 @@ use Rattle.plan.specs.Plan.{lastLine}
 use Rattle.floor.specs.Refusal.{refusal}
 use Rattle.lines.specs.Rows.{Spans, Alphas}
 
--- a list whose first n values are in range, and there is one
+-- a list whose first n values, at least one, are in range
 pub record Values (a : List ℕ) (n : ℕ) : Type 0 where
   pub some : 0 < n
   pub few : n ≤ 13

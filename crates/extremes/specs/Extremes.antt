@@ -1,4 +1,4 @@
--- Two lists of values of which some pair lies far apart: limits 2 and 32 ask it of spans, and of p and q, of the two directions.
+-- Whether some pair of values of two lists lies far apart: limit 2 asks it of the spans of the two directions, limit 32 of p and q.
 -- Assumes nothing.
 use Prim.Native.Nat.{ℕ, _*_, _<_}
 use mathlib.Core.Bool.{Bool}
@@ -13,7 +13,7 @@ use Rattle.lines.specs.Lines.{pairAlpha}
 use Rattle.limits.specs.Limits.{somePair}
 use Rattle.extremes.specs.declared.Ends.{Ends}
 
--- some of the first n of a and some of the first m of b: one exceeds k times the other
+-- of some value among the first n of a and some value among the first m of b, one exceeds k times the other
 unfoldable pub apartSome : ℕ → List ℕ → ℕ → List ℕ → ℕ → Bool
 apartSome k a n b m = somePair n m (λ i j. apart k (getD a i 0) (getD b j 0))
 
@@ -21,10 +21,10 @@ apartSome k a n b m = somePair n m (λ i j. apart k (getD a i 0) (getD b j 0))
 unfoldable pub endsOf : ℕ → (ℕ → ℕ) → Ends
 endsOf n v = record { least = leastOf n v; most = mostOf n v }
 
--- p, or q, of the bay k across the lines along d
+-- p, or q, of bay k across the lines along d
 unfoldable pub shareOf : List ℕ → Way → ℕ → ℕ
 shareOf f d k = pairAlpha f d k * (span f (across d) k * span f (across d) k)
 
--- p has that of every bay across the lines along d
+-- the list p has that number for every bay across the lines along d
 pub record Shares (f : List ℕ) (d : Way) (p : List ℕ) : Type 0 where
   pub is : (k : ℕ) → k < lastLine f d → getD p k 0 ≡ shareOf f d k

@@ -1,5 +1,5 @@
 // The limits over all panels at once, by the extremes of the two directions: 2 of the spans, 32 of p and q.
-// Of two lists, some pair lies further apart than k times exactly where their extremes do.
+// Some number of one list exceeds k times some number of another exactly where the largest of the one exceeds k times the least of the other.
 ghost use mathlib.Core.Path.{_≡_};
 ghost use Prim.Native.Nat.{_*_, _≤_};
 ghost use lib.ListN.{getD};
@@ -39,7 +39,7 @@ fn ends_of(a: &[u64; 13], n: u32) -> Ends
     Ends { least, most }
 }
 
-// Does one of a's first n and one of b's first m exceed k times the other?
+// Is there a pair, one of a's first n and one of b's first m, in which one exceeds k times the other?
 fn apart(a: &[u64; 13], n: u32, b: &[u64; 13], m: u32, k: u64) -> bool
     requires { ⌜ Values (now a) n ⌝ }
     requires { ⌜ Values (now b) m ⌝ }
@@ -67,7 +67,7 @@ fn share(pair: u64, span: u64) -> u64
     pair * (span * span)
 }
 
-// Of each of the n bays across the lines along d: p where these run along x, q where along y.
+// Of each of the n bays across the lines along d: p where the lines run along x, q where they run along y.
 fn shares(f: &[u8], d: Way, a: &[u64; 13], s: &[u64; 13], n: u32) -> [u64; 13]
     requires { ⌜ Sharing (now f) d (now a) (now s) n ⌝ }
     ensures { λ r. ⌜ Shares (now (f .entry)) d r ⌝ }

@@ -1,4 +1,4 @@
--- What functions of this crate ask of their callers: who only wants to know what the program does need not read it.
+-- What functions of this crate ask of their callers. A reader who only wants to know what the program does need not read this file.
 -- Assumes nothing.
 use Prim.Native.Nat.{ℕ, _+_, _*_, _≤_}
 use mathlib.Core.List.{List}
@@ -19,7 +19,7 @@ pub record Run (f : List ℕ) (from n : ℕ) : Type 0 where
   pub number : n ≤ 169
   pub inside : (from + n) * 16 ≤ length f
 
--- b is the bays of f, which record 0 has in range, and the file holds exactly the records that they ask: what checks 1 to 3 leave
+-- b has the bays of f, record 0 has them in range, and the file holds exactly the records that they ask for: what is known after checks 1 to 3
 pub record Complete (f : List ℕ) (b : Bays) : Type 0 where
   pub sized : Sized f b
   pub first : First f

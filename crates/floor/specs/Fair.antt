@@ -1,5 +1,5 @@
--- What the numbers of an accepted floor keep: "The floor file", the table's last column by name, and refusals 6 and 7.
--- What is not there reads 0, so an upper bound holds at any index; a lower bound where the record is there.
+-- What holds of the numbers of an accepted floor: "The floor file", the table's last column by name, and refusals 6 and 7.
+-- What is not there reads 0, so an upper bound holds at any index, a lower bound only where the record is there.
 -- Assumes nothing.
 use Prim.Native.Nat.{ℕ, _%_, _≤_, _<_}
 use mathlib.Core.List.{List}

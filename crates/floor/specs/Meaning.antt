@@ -1,5 +1,5 @@
 -- "Refusal numbers, in the order tried": what each check asks of a floor file, as a statement.
--- Above each check stands the paper's sentence for its refusal: the statement is its contrary, what a floor that passes has.
+-- Above each statement stands 01's sentence for its refusal: the statement is its negation, which holds of a floor that passes.
 -- Those of 6 and 7 are in crate layouts. That the tests of `Refusal` say these statements, and that `refusal` answers the number given, is proved in
 -- proofs/Meaning.
 -- Assumes nothing.
@@ -29,7 +29,7 @@ First f = HeadIs f 0 sizeKind 0 × Sizes (partAt f 0 partA) (partAt f 0 partB) (
 abbrev pub Counted : List ℕ → Type 0
 Counted f = length f ≡ total (bays f X) (bays f Y) * 16
 
--- every record that nx and ny ask, of kind k and index i, has P at its place q
+-- every record that nx and ny ask for, of kind k and index i, has P at its place q
 abbrev pub EachRecord : List ℕ → (ℕ → ℕ → ℕ → Type 0) → Type 0
 EachRecord f P = (k i : ℕ) → i < many f k → P k i (start f k + i)
 

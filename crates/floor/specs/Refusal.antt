@@ -38,7 +38,7 @@ countOk f = eqb (length f) (total (bays f X) (bays f Y) * 16)
 
 -- record q, which is to be the one of kind k and index i
 --     Listed    4: its kind, index and zero fields are as listed
---     Ranged    5: its values are in range, and no beam has one size 0 alone
+--     Ranged    5: its values are in range, and no beam has just one of its sizes 0
 unfoldable pub recordOk : List ℕ → Check → ℕ → ℕ → ℕ → Bool
 recordOk f Listed k i q = headIs f q k i && unlistedZero k (partAt f q partB) (partAt f q partC)
 recordOk f Ranged k i q = valuesOk k (partAt f q partA) (partAt f q partB) (partAt f q partC)

@@ -22,7 +22,7 @@ use records::kinds::SIZES;
 use records::kinds::count_of;
 use records::kinds::start_of;
 
-// What is looked at in every record before the next is tried.
+// What is checked in every record before the next check is tried.
 pub enum Check {
     Listed,
     Ranged,
@@ -100,7 +100,7 @@ fn kind_ok(f: &[u8], check: Check, k: u32, from: u32, n: u32) -> bool
     true
 }
 
-// The offsets, most of the records: here the kind is known to the compiler, so a turn of the loop asks for none.
+// The offsets, which are most of the records: here the compiler knows the kind, so that no turn of the loop has to tell kinds apart.
 fn offsets_ok(f: &[u8], check: Check, from: u32, n: u32) -> bool
     requires { ⌜ Run (now f) from n ⌝ }
     ensures { λ r. ⌜ r ≡ kindOk (now (f .entry)) check offsetKind from n ⌝ }

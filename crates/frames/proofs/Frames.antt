@@ -62,7 +62,7 @@ module _ (f t : List ℕ) (slab : Slab) (a : List ℕ) (kind index : ℕ) (d : W
         ≡ writtenFrom recordWidth (namedAt f kind index) (recordAt f) (lineFirst f d l) (bays f d) t
     line-is = rw (q, count-is e) (sym (line-written f kind index recordWidth (recordAt f) d l t (h .line) (h .frames .listed .there) some-span))
 
-    -- a line of which no span is named
+    -- a line with no span named
     pub line-left : spans .to ≤ spans .from → t ≡ writtenFrom recordWidth (namedAt f kind index) (recordAt f) (lineFirst f d l) (bays f d) t
     line-left o =
         let z : spans .to - spans .from ≡ 0 = omega arith in

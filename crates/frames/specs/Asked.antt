@@ -1,4 +1,4 @@
--- What leaves ask of their callers; who only wants to know what the program does need not read it.
+-- What leaves ask of their callers. A reader who only wants to know what the program does need not read this file.
 -- Assumes nothing.
 use Prim.Native.Nat.{ℕ, _≤_, _<_}
 use mathlib.Core.List.{List}
@@ -29,7 +29,7 @@ pub record Standing (f t : List ℕ) (slab : Slab) : Type 0 where
 pub record Listed (f : List ℕ) (kind index : ℕ) : Type 0 where
   pub there : index < many f kind
 
--- with α of all its lines
+-- with α of all lines of the floor
 pub record InTable (f t : List ℕ) (slab : Slab) (a : List (List ℕ)) (kind index : ℕ) : Type 0 where
   pub standing : Standing f t slab
   pub alphas : AllAlphas f a
@@ -41,7 +41,7 @@ pub record InFrames (f t : List ℕ) (slab : Slab) (a : List ℕ) (kind index : 
   pub alphas : Alphas f d 0 (lastLine f d) a
   pub listed : Listed f kind index
 
--- and a line of them
+-- and one of these lines
 pub record AtLine (f t : List ℕ) (slab : Slab) (a : List ℕ) (kind index : ℕ) (d : Way) (l : ℕ) : Type 0 where
   pub frames : InFrames f t slab a kind index d
   pub line : l ≤ lastLine f d

@@ -25,7 +25,7 @@ use tables::named::named_spans;
 use tables::places::line_first;
 use tables::write::write_record;
 
-// Record k, of span s along d, where what its line shares is at hand.
+// Record k, of span s along d, where what the spans of its line share is at hand.
 fn write_span(
     f: &[u8],
     table: &mut [u32],
@@ -68,7 +68,7 @@ fn write_spans(
     }
 }
 
-// A line of which no span is named is not even read.
+// A line with no span named is not even read.
 fn write_line(
     f: &[u8],
     table: &mut [u32],

@@ -1,4 +1,4 @@
--- What functions of this crate ask of their callers: who only wants to know what the program does need not read it.
+-- What functions of this crate ask of their callers. A reader who only wants to know what the program does need not read this file.
 -- Assumes nothing.
 use Prim.Native.Nat.{ℕ, _≤_}
 use mathlib.Core.List.{List}
@@ -8,7 +8,7 @@ use Rattle.plan.specs.Asked.{Sized}
 use Rattle.plan.specs.Plan.{bays}
 use Rattle.layouts.specs.Meaning.{LayoutAllowed}
 
--- b is the bays of f, and there is one each way: so there is a line 1 along either direction
+-- b has the bays of f, at least one each way, so that there is a line 1 along either direction
 pub record Lined (f : List ℕ) (b : Bays) : Type 0 where
   pub sized : Sized f b
   pub bay : (d : Way) → 1 ≤ bays f d

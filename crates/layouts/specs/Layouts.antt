@@ -36,7 +36,7 @@ keeps f d Columns i = leb (2 * column f d) (span f d i)
 keeps f d (Beams layout) l = beamFits layout (beamWidth f d l) (lastLine f d) l
 keeps f d Depth l = eqb (beamWidth f d l) 0 || ltb (thickness f) (beamDepth f d l)
 
--- and of how many
+-- how many spans or lines it asks that of
 abbrev pub asked : List ℕ → Way → Rule → ℕ
 asked f d Columns = bays f d
 asked f d (Beams layout) = lastLine f d + 1
@@ -53,8 +53,8 @@ unfoldable pub layoutOf : List ℕ → Layout
 layoutOf f =
     cond (kept f (Beams Everywhere)) Everywhere (cond (kept f (Beams OuterOnly)) OuterOnly Bare)
 
--- the layout by the beams on x line 0, which is outer, and on lines 1, which are outer only where they are last; where the floor's layout is
--- allowed and there is a bay each way, it is `layoutOf` (proofs/ByThree)
+-- the layout as three beams tell it: on x line 0, which is outer, and on line 1 of either direction, which is outer only where it is the last; where
+-- the floor's layout is allowed and there is a bay each way, it is `layoutOf` (proofs/ByThree)
 unfoldable pub toldBy : ℕ → ℕ → ℕ → Layout
 toldBy first x y = cond (eqb first 0) Bare (cond (eqb x 0 || eqb y 0) OuterOnly Everywhere)
 

@@ -15,7 +15,7 @@ use Rattle.layouts.specs.Layouts.{layoutOf}
 abbrev pub ColumnsFit : List ℕ → Type 0
 ColumnsFit f = (d : Way) (i : ℕ) → i < bays f d → 2 * column f d ≤ span f d i
 
--- every line along either direction has P; there is one that has it
+-- every line along either direction has P; some line has P
 abbrev pub EachLine : List ℕ → (Way → ℕ → Type 0) → Type 0
 EachLine f P = (d : Way) (l : ℕ) → l ≤ lastLine f d → P d l
 

@@ -1,5 +1,5 @@
 // Rules that every span or line of both directions keeps (refusals 6 and 7), and the layout of the beams.
-// `b` is the bays of the floor, counted once for a call.
+// `b` has the bays of the floor, which are read once for a call.
 ghost use mathlib.Core.Path.{_≡_};
 ghost use Prim.Native.Nat.{_≤_, _*_};
 ghost use mathlib.Core.Bool.{_||_};
@@ -138,7 +138,7 @@ pub fn kept(f: &[u8], b: Bays, rule: Rule) -> bool
     )
 }
 
-// The layout by three beams: on x line 0, which is outer, and on lines 1, which are outer only where they are last.
+// The layout as three beams tell it: on x line 0, which is outer, and on line 1 of either direction, which is outer only where it is the last.
 fn told_by(first: u32, x: u32, y: u32) -> Layout
     ensures { λ r. ⌜ r ≡ toldBy first x y ⌝ }
 {

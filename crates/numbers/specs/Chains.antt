@@ -21,7 +21,7 @@ unfoldable pub tried : Chain → ℕ
 tried [] = 0
 tried (n unless ok says P ∷ rest) = cond ok (tried rest) n
 
--- number n is given: by the first check, whose statement does not hold, or that holds and n is given by the rest; success is 0
+-- number n is given: the first check's statement does not hold and n is its number, or it holds and the rest gives n; success is 0
 unfoldable pub GivenBy : Chain → ℕ → Type 0
 GivenBy [] n = n ≡ 0
 GivenBy (m unless ok says P ∷ rest) n = ((¬ P) × (n ≡ m)) ⊎ (P × GivenBy rest n)

@@ -1,10 +1,10 @@
--- The most and the least of n values, and two numbers that are far apart.
+-- The largest and the smallest of n values, and two numbers that are far apart.
 -- Assumes nothing.
 use Prim.Native.Nat.{ℕ, zero, suc, _*_, min, max}
 use mathlib.Core.Bool.{Bool, _||_}
 use lib.Dec.{ltb}
 
--- of the values at the numbers below n; without one the most is 0, the least the value at 0
+-- of the values at the numbers below n; where there are none, the most is 0 and the least is the value at 0
 unfoldable pub mostOf : ℕ → (ℕ → ℕ) → ℕ
 mostOf zero v = 0
 mostOf (suc n) v = max (mostOf n v) (v n)

@@ -9,7 +9,7 @@ use lib.Seq.{paste}
 unfoldable pub put : ℕ → ℕ → List ℕ → List ℕ → List ℕ
 put w k v t = paste t (k * w) v w
 
--- the n records from record a on that s picks are replaced, record k by g k, and every other number is as it was
+-- of the n records from record a on, those that s picks are replaced, record k by g k; every other number is as it was
 unfoldable pub writtenFrom : ℕ → (ℕ → Bool) → (ℕ → List ℕ) → ℕ → ℕ → List ℕ → List ℕ
 writtenFrom w s g a zero t = t
 writtenFrom w s g a (suc n) t = cond (s (a + n)) (put w (a + n) (g (a + n)) (writtenFrom w s g a n t)) (writtenFrom w s g a n t)

@@ -12,7 +12,7 @@ pub record Down (n d q : ℕ) : Type 0 where
 abbrev pub up : ℕ → ℕ → ℕ
 up n d = (n + (d - 1)) / d
 
--- which can be worked out in 64 bits
+-- n and d for which that can be worked out in 64 bits
 pub record Quotient (n d : ℕ) : Type 0 where
   pub positive : 0 < d
   pub room : n + d < 2 ^ 64

@@ -5,7 +5,7 @@ use mathlib.Core.Path.{_≡_}
 use Prim.Native.Nat.{ℕ, zero, suc, _<_}
 use lib.Dec.{leb}
 
--- the answer of a loop that stops with w at the first number below n whose test answers w, and else ends with the other answer
+-- the answer of a loop that stops with w at the first number below n whose test answers w, and otherwise ends with the other answer
 abbrev pub joined : Bool → Bool → Bool → Bool
 joined w a b = cond w (a || b) (a && b)
 
@@ -21,7 +21,7 @@ all = until false
 abbrev pub some : ℕ → (ℕ → Bool) → Bool
 some = until true
 
--- every number below n has P; there is one that has it
+-- every number below n has P; some number below n has P
 abbrev pub All : ℕ → (ℕ → Type 0) → Type 0
 All n P = (k : ℕ) → k < n → P k
 

@@ -17,7 +17,7 @@ pub fn larger(a: u64, b: u64) -> u64
     if a < b { b } else { a }
 }
 
-// Both, or either, of two tests that are already answered: a caller of it has no branch, and its proof no cases.
+// Both, or either, of two tests that are already answered, so that the caller has no branch and its proof no cases.
 pub fn both(a: bool, b: bool) -> bool
     ensures { λ r. ⌜ r ≡ (a && b) ⌝ }
 {

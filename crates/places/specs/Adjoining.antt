@@ -8,6 +8,6 @@ use Rattle.plan.specs.declared.ways.Way.{Way}
 use Rattle.plan.specs.Plan.{bays}
 use Rattle.limits.specs.Limits.{adjoining}
 
--- a has the shorter of the spans that adjoin each column along d
+-- a has, for each column along d, the shorter of the spans that adjoin it
 pub record Adjoining (f : List ℕ) (d : Way) (a : List ℕ) : Type 0 where
   pub is : (k : ℕ) → k ≤ bays f d → getD a k 0 ≡ adjoining f d k

@@ -38,7 +38,7 @@ pub fn uneven(f: &[u8], d: Way, s: &[u64; 13], n: u32) -> bool
     false
 }
 
-// Of n spans in a row, the shorter of those that adjoin the columns k-th along them.
+// Of n spans in a row, the shorter of those that adjoin column k along them.
 fn shorter_at(s: &[u64; 13], n: u32, k: u32) -> u64
     requires { ⌜ EndOf n k ⌝ }
     ensures { λ r. ⌜ r ≡ lesserAt n (λ i. getD (now (s .entry)) i 0) k ⌝ }
@@ -48,7 +48,7 @@ fn shorter_at(s: &[u64; 13], n: u32, k: u32) -> u64
     smaller(s[low], s[high])
 }
 
-// For each line across d.
+// The same for every column along d.
 fn adjoining(f: &[u8], d: Way, s: &[u64; 13], n: u32) -> [u64; 13]
     requires { ⌜ SpansAlong (now f) d (now s) n ⌝ }
     ensures { λ r. ⌜ Adjoining (now (f .entry)) d r ⌝ }

@@ -1,4 +1,4 @@
--- What functions of this crate ask of their callers: who only wants to know what the program does need not read it.
+-- What functions of this crate ask of their callers. A reader who only wants to know what the program does need not read this file.
 -- Assumes nothing.
 use Prim.Native.Nat.{ℕ, _+_, _*_, _≤_}
 use mathlib.Core.List.{List}
@@ -17,7 +17,7 @@ pub record PartIn (f : List ℕ) (q part : ℕ) : Type 0 where
   pub inside : q * 16 + 16 ≤ length f
   pub field : part ≤ 3
 
--- b is the bays of f
+-- b has the bays of f
 pub record Sized (f : List ℕ) (b : Bays) : Type 0 where
   pub is : b ≡ baysOf f
   pub x : b .x ≡ bays f X
@@ -31,7 +31,7 @@ pub record Entries (from n part : ℕ) : Type 0 where
   pub number : n ≤ 169
   pub field : part ≤ 3
 
--- a kind that has one record, before all others, and a part of it
+-- one of kinds 1 to 4, which have one record each and stand before all others; and a part of it
 pub record Single (k part : ℕ) : Type 0 where
   pub least : 1 ≤ k
   pub most : k ≤ 4

@@ -22,7 +22,7 @@ bays f d = upToTwelve (pick d (partAt f 0 partA) (partAt f 0 partB))
 abbrev pub baysOf : List ℕ → Bays
 baysOf f = record { x = bays f X; y = bays f Y }
 
--- how many records of kind k this floor has, and the record with which they start
+-- how many records of kind k this floor has, and which record is the first of them
 abbrev pub many : List ℕ → ℕ → ℕ
 many f k = countOf (bays f X) (bays f Y) k
 

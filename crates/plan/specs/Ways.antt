@@ -7,7 +7,7 @@ use Rattle.plan.specs.declared.ways.Way.the-variants.{X, Y}
 use Rattle.plan.specs.declared.ways.End.{End}
 use Rattle.plan.specs.declared.ways.End.the-variants.{Low, High}
 
--- of two numbers, the one of a direction
+-- of two numbers, the one that belongs to a direction
 abbrev pub pick : Way → ℕ → ℕ → ℕ
 pick X x y = x
 pick Y x y = y

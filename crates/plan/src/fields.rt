@@ -1,4 +1,4 @@
-// Little-endian fields of a file. What lies past the end reads 0; who knows that a record lies in the file reads it without a test.
+// Little-endian fields of a file. What lies past the end reads 0; a caller that knows that a record lies in the file reads it without a test.
 ghost use mathlib.Core.Path.{_≡_};
 ghost use Prim.Native.Nat.{_+_, _*_};
 ghost use lib.ListN.{getD};

@@ -30,7 +30,7 @@ pub fn bays_of(f: &[u8]) -> Bays
     }
 }
 
-// How many bays along d; across it there are as many as the number of the last line along it.
+// How many bays there are along d. Lines are numbered from 0, so the last line along d has the number of the bays across it.
 pub fn along(b: Bays, d: Way) -> u32
     ensures { λ r. ⌜ r ≡ pick d (b .x) (b .y) ⌝ }
 {
@@ -40,7 +40,7 @@ pub fn along(b: Bays, d: Way) -> u32
     }
 }
 
-// The same of floor f, of which b is the bays; and the number of the last line along d.
+// The same for floor f, whose bays are b; and the number of the last line along d.
 pub fn bays_along(f: &[u8], b: Bays, d: Way) -> u32
     requires { ⌜ Sized (now f) b ⌝ }
     ensures { λ r. ⌜ (r ≡ bays (now (f .entry)) d) × (r ≤ 12) ⌝ }
@@ -55,7 +55,7 @@ pub fn last_line(f: &[u8], b: Bays, d: Way) -> u32
     bays_along(f, b, ways::across(d))
 }
 
-// Part `part` of the i-th of the n records from record `from` on, 0 where there are not so many.
+// Part `part` of the i-th of the n records from record `from` on; 0 where there are not that many.
 fn entry(f: &[u8], from: u32, n: u32, i: u32, part: u32) -> u32
     requires { ⌜ Entries from n part ⌝ }
     ensures { λ r. ⌜ r ≡ cond (ltb i n) (partAt (now (f .entry)) (from + i) part) 0 ⌝ }

@@ -1,4 +1,4 @@
-// The two directions of a floor, and the two ends of what runs along one. "y likewise" is this parameter.
+// The two directions of a floor, and the two ends of what runs along one. 01's "y likewise" is this parameter.
 ghost use mathlib.Core.Path.{_≡_};
 ghost use Prim.Native.Nat.{_≤_, _<_};
 ghost use Rattle.plan.specs.Ways.{pick, across, spanKind, lineKind, partOf, sideUnit};

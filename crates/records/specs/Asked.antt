@@ -1,4 +1,4 @@
--- What functions of this crate ask of their callers: who only wants to know what the program does need not read it.
+-- What functions of this crate ask of their callers. A reader who only wants to know what the program does need not read this file.
 -- Assumes nothing.
 use Prim.Native.Nat.{ℕ, _≤_}
 
@@ -7,7 +7,7 @@ pub record Small (nx ny : ℕ) : Type 0 where
   pub x : nx ≤ 12
   pub y : ny ≤ 12
 
--- with a kind of the table
+-- and a kind of the table
 pub record Kinded (nx ny k : ℕ) : Type 0 where
   pub x : nx ≤ 12
   pub y : ny ≤ 12

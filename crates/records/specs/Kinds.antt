@@ -20,7 +20,7 @@ columnKind = 4
 abbrev pub offsetKind : ℕ
 offsetKind = 9
 
--- what kind k, 1 to 9, has of nine things; any other number has the last
+-- of nine things, the one of kind k, 1 to 9; for any other number `other`
 abbrev pub byKind {ℓ} : {A : Type ℓ} → ℕ → A → A → A → A → A → A → A → A → A → A → A
 byKind k sizes materials loads columns xspan yspan xbeam ybeam offset other =
     cond (eqb k 1) sizes (cond (eqb k 2) materials (cond (eqb k 3) loads (cond (eqb k 4) columns (cond (eqb k 5) xspan
@@ -35,7 +35,7 @@ unfoldable pub startOf : ℕ → ℕ → ℕ → ℕ
 startOf nx ny zero = 0
 startOf nx ny (suc k) = startOf nx ny k + countOf nx ny k
 
--- all records that nx and ny ask
+-- all the records that nx and ny ask for
 unfoldable pub total : ℕ → ℕ → ℕ
 total nx ny = startOf nx ny 10
 

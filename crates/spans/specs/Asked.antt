@@ -1,6 +1,6 @@
--- What leaves ask of their callers; who only wants to know what the program does need not read it.
--- What the numbers of a view keep, so that every formula stays within its range: those of an accepted floor, and of its proportions
--- what a clear verdict adds. `workable` (proofs/Clear) shows that every view of a clear floor is such.
+-- What leaves ask of their callers. A reader who only wants to know what the program does need not read this file.
+-- The numbers of a view are in range, so that every formula can be worked out: the ranges of an accepted floor, and what a clear verdict adds
+-- about its proportions. `workable` (proofs/Clear) shows it of every view of a clear floor.
 -- Assumes nothing.
 use Prim.Native.Nat.{ℕ, _*_, _≤_, _<_}
 use mathlib.Core.List.{List}
@@ -60,7 +60,7 @@ pub record WorkableSpan (v : View) (w : LineWork) : Type 0 where
   pub view : Workable v
   pub line : w ≡ lineWork (v .line) (alphaOf (v .line) (v .slab .t))
 
--- what a span's numbers keep
+-- the ranges of a span's numbers
 pub record Worked (w : SpanWork) : Type 0 where
   pub moment : w .moment ≤ 25056000
   pub stiffness : w .a ≤ 10000

@@ -1,5 +1,5 @@
--- What the numbers of a record keep: at a section "middle", "beam" and "slab" are its whole total, and the three sections of a span balance.
--- proofs/Whole shows it of every workable span, proofs/Clear that every span of a clear floor is such.
+-- What holds of the numbers of a record: at a section "middle", "beam" and "slab" make up its whole total, and the three sections of a span balance.
+-- proofs/Whole shows it of every workable span, proofs/Clear shows that every span of a clear floor is workable.
 -- Assumes nothing.
 use Prim.Native.Nat.{ℕ, _+_, _*_, _≤_, _<_}
 use mathlib.Core.Bool.{Bool, false, cond, _&&_}
@@ -22,7 +22,7 @@ pub record Shared (s : Strips) : Type 0 where
 abbrev pub unrestrained : EndView → Bool
 unrestrained e = e .outer && eqb (e .code) 1
 
--- a span has one outer end at most: a clear floor has three bays or more
+-- a span has at most one outer end: a clear floor has at least three bays each way
 abbrev pub OneOuter : EndView → EndView → Type 0
 OneOuter low high = (low .outer && high .outer) ≡ false
 

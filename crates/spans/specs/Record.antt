@@ -19,7 +19,7 @@ use Rattle.spans.specs.Works.{spanWork}
 
 -- ---- p: an end span has its outer end's row of the end-span table, an inner span the percentages of inner spans
 
--- in a span whose low end is an outer end with this code; and where its high end is
+-- in a span whose low end is an outer end with this code; and in one whose high end is
 abbrev pub firstSpan : ℕ → Layout → Percents
 firstSpan code layout =
     record { low = endPercent code layout OuterEnd; between = endPercent code layout Between; high = endPercent code layout InnerEnd }

@@ -16,7 +16,7 @@ use Rattle.spans.specs.declared.view.LineView.{LineView}
 use Rattle.spans.specs.declared.view.EndView.{EndView}
 use Rattle.spans.specs.declared.view.View.{View}
 
--- the column along the line is what its clear lengths lose, the column across what its widths gain past an outer line
+-- clear lengths lose the column along the line; past an outer line, widths gain half the column across
 unfoldable pub lineView : List ℕ → Way → ℕ → LineView
 lineView f d l =
     record {

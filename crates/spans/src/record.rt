@@ -34,7 +34,7 @@ pub struct Percents {
     pub high: u64,
 }
 
-// In a span whose low end is an outer end with this code; and where its high end is.
+// In a span whose low end is an outer end with this code; and in one whose high end is.
 fn first_span(code: u32, layout: Layout) -> Percents
     ensures { λ r. ⌜ r ≡ firstSpan code layout ⌝ }
 {

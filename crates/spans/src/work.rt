@@ -1,4 +1,4 @@
-// What a line and a span of it come to before their sections are worked out.
+// The numbers of a line and of a span of it, which are worked out before the span's sections.
 ghost use mathlib.Core.Path.{_≡_};
 ghost use Rattle.spans.specs.Works.{lineWork, spanWork};
 ghost use Rattle.spans.specs.Asked.{Sides, WorkableSpan, Worked};
@@ -19,7 +19,7 @@ pub struct LineWork {
     pub alpha: u64,
 }
 
-// Mo, A, R and wc of a span, beside what its sections need of the rest.
+// Mo, A, R and wc of a span, and what else its sections need.
 pub struct SpanWork {
     pub moment: u64,
     pub a: u64,

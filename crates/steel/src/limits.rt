@@ -1,4 +1,4 @@
-// The limits that a query sets to its area.
+// The limits that a query sets for its area.
 use crate::query::Query;
 use crate::query::depth_of;
 use crate::search::Limits;

@@ -16,8 +16,8 @@ pub struct Limits {
     pub most: u64,
 }
 
-// What an area carries bends down as the area grows: its tangent at an area that is too small meets the load at none that is too large.
-// That meeting, rounded up, is the next area tried.
+// The moment carried, drawn over the area, bends down: its tangent at an area that is too small meets the load at an area that is not too large.
+// That area, rounded up, is tried next.
 pub fn least_within(l: Limits) -> Answer
     requires { ⌜ Searchable l ⌝ }
     ensures { λ r. ⌜ r ≡ leastWithin l ⌝ }

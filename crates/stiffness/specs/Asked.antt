@@ -1,5 +1,5 @@
--- What leaves ask of their callers: a reader who only wants to know what the program does need not read it.
--- The numbers of an accepted floor keep it: "The floor file", refusals 5 to 7.
+-- What leaves ask of their callers. A reader who only wants to know what the program does need not read this file.
+-- The numbers of an accepted floor have these ranges: "The floor file", refusals 5 to 7.
 -- Assumes nothing.
 use Prim.Native.Nat.{ℕ, _%_, _≤_, _<_, min, max}
 use mathlib.Core.Bool.{Bool, cond}
@@ -22,7 +22,7 @@ pub record Column (c : ℕ) : Type 0 where
 abbrev pub OneSpan : ℕ → ℕ → Type 0
 OneSpan below above = ((below ≡ 0) × (1000 ≤ above)) ⊎ ((1000 ≤ below) × (above ≡ 0))
 
--- the spans on the low and on the high side of a line: one of an outer line, two of a line inside
+-- the spans on the low and on the high side of a line: one at an outer line, two at a line inside
 pub record Beside (outer : Bool) (below above : ℕ) : Type 0 where
   pub below-most : below ≤ 12000
   pub below-twenties : below % 20 ≡ 0

@@ -5,7 +5,7 @@ use Prim.Native.Nat.{ℕ, _+_, _*_, _/_, min}
 use mathlib.Core.Bool.{Bool, cond}
 use Rattle.stiffness.specs.Sections.{cube, ofBeam, inertia}
 
--- the column across, which a frame has half of past an outer line
+-- the column across, of which a frame has half past an outer line
 abbrev pub past : Bool → ℕ → ℕ
 past outer column = cond outer column 0
 

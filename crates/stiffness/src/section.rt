@@ -39,7 +39,7 @@ impl Section {
     }
 }
 
-// The slab's part f of a beam.
+// The flange f: what the slab adds to a beam.
 pub fn flange(h: u64, t: u64) -> u64
     requires { ⌜ Deeper h t ⌝ }
     ensures { λ r. ⌜ (r ≡ flange h t) × (r ≤ 1200) ⌝ }

@@ -1,5 +1,5 @@
--- What leaves ask of their callers: a reader who only wants to know what the program does need not read it.
--- An accepted floor keeps it, and, where it is said, one whose verdict is clear.
+-- What leaves ask of their callers. A reader who only wants to know what the program does need not read this file.
+-- The numbers of an accepted floor have these ranges; some, where it is said, only those of a floor whose verdict is clear.
 -- Assumes nothing.
 use Prim.Native.Nat.{ℕ, _+_, _*_, _≤_, _<_, _^_}
 use mathlib.Core.Path.{_≡_}
@@ -48,7 +48,7 @@ pub record ShareRatios (A R : ℕ) : Type 0 where
   pub least : 5000 ≤ R
   pub most : R ≤ 20000
 
--- and B
+-- with B
 pub record OuterRatios (A R B : ℕ) : Type 0 where
   pub shared : ShareRatios A R
   pub torsion : B ≤ 25000
@@ -59,7 +59,7 @@ pub record Crossing (base crossover : ℕ) : Type 0 where
   pub least : 4500 ≤ base
   pub most : base ≤ 9000
 
--- a floor that is no less than 0, in 64 bits
+-- k + floor((p − q)/d) that is not negative, in 64 bits
 pub record Floored (k p q d : ℕ) : Type 0 where
   pub divisor : 0 < d
   pub covered : q ≤ k * d + p

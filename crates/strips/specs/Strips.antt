@@ -1,4 +1,4 @@
--- "Moments": "Column strip parts of 10000, floors toward minus infinity", and a section total between the strips.
+-- "Moments": "Column strip parts of 10000, floors toward minus infinity", and a section total divided between the strips.
 -- The parts are defined over the naturals, as they are computed; specs/Meaning says them over the integers, as 01 does, and proofs/Signed shows that
 -- the two agree.
 -- Assumes nothing.

@@ -1,4 +1,4 @@
--- What leaves ask of their callers; who only wants to know what the program does need not read it.
+-- What leaves ask of their callers. A reader who only wants to know what the program does need not read this file.
 -- Assumes nothing.
 use Prim.Native.Nat.{ℕ, _*_, _≤_}
 use mathlib.Core.List.{List}

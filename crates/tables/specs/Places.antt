@@ -28,7 +28,7 @@ recordsOf b = (b .y + 1) * b .x + (b .x + 1) * b .y
 unfoldable pub recordCount : List ℕ → ℕ
 recordCount f = recordsOf (baysOf f)
 
--- the record with which the frames along a direction start, and those of line l along it
+-- the first record of the frames along a direction, and of line l along it
 abbrev pub firstIn : Bays → Way → ℕ
 firstIn b X = 0
 firstIn b Y = (b .y + 1) * b .x

@@ -31,7 +31,7 @@ fn whole_if(test: bool, n: u32) -> Spans
     }
 }
 
-// Of frames of n spans, the span at the outer line j across them.
+// Of a frame of n spans, the one that ends at line j across it, where j is an outer line.
 fn end_span(n: u32, j: u32) -> Spans
     requires { ⌜ 1 ≤ n ⌝ }
     ensures { λ r. ⌜ r ≡ endSpan n j ⌝ }

@@ -17,7 +17,7 @@ pub fn record_count(b: Bays) -> u32
     (ny + 1) * nx + (nx + 1) * ny
 }
 
-// The record with which the frames along d start.
+// The first record of the frames along d.
 fn first_of(b: Bays, d: Way) -> u32
     requires { ⌜ Bayed b ⌝ }
     ensures { λ r. ⌜ (r ≡ firstIn b d) × (r ≤ 156) ⌝ }
@@ -27,7 +27,7 @@ fn first_of(b: Bays, d: Way) -> u32
     pick(d, 0, (ny + 1) * nx)
 }
 
-// And line l along d.
+// And of line l along d.
 pub fn line_first(b: Bays, d: Way, l: u32) -> u32
     requires { ⌜ OnLine b l ⌝ }
     ensures { λ r. ⌜ (r ≡ lineFirstIn b d l) × (r ≤ 300) ⌝ }

@@ -71,7 +71,7 @@ leastThickness p =
     byStiffness (p .everywhere) (p .s) (stiff (p .fy) (p .sn) (p .ln)) (middling (p .fy) (p .sn) (p .ln) (p .s))
     (tabled (divisor (p .fy) (p .place)) (p .ln))
 
--- the numbers of a rule: t is the least that it asks, and none is so large that its quotient or a slab's multiple would not fit
+-- the numbers of a rule: t is the least that it allows, and none is so large that its quotient or a slab's multiple would not fit
 pub record Asks (t : ℕ) (rule : Bound) : Type 0 where
   pub is : max (rule .least) (up (rule .n) (rule .d)) ≡ t
   pub positive : 0 < rule .d

@@ -15,7 +15,7 @@ pub enum PanelPlace {
     Inner,
 }
 
-// What the thickness of a panel is asked from: its clear spans, the shorter and the longer, and S.
+// What the least thickness of a panel is worked out from; sn and ln are its shorter and longer clear spans.
 pub struct Panel {
     pub everywhere: bool,
     pub place: PanelPlace,
