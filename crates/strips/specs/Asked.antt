@@ -76,9 +76,3 @@ pub record Fraction (total n d : ℕ) : Type 0 where
 pub record SectionShare (total n d A : ℕ) : Type 0 where
   pub fraction : Fraction total n d
   pub stiffness : A ≤ 10000
-
--- a section total and its column strip, with A
-pub record Parted (total column A : ℕ) : Type 0 where
-  pub total-most : total ≤ 1879200000
-  pub column-most : column ≤ total
-  pub stiffness : A ≤ 10000

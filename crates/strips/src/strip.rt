@@ -2,7 +2,7 @@
 ghost use mathlib.Core.Path.{_≡_};
 ghost use Prim.Native.Nat.{_≤_};
 ghost use Rattle.numbers.specs.Rounding.{plusFloor};
-ghost use Rattle.strips.specs.Asked.{Floored, Crossing, ShareRatios, OuterRatios, Fraction, SectionShare, Parted};
+ghost use Rattle.strips.specs.Asked.{Floored, Crossing, ShareRatios, OuterRatios, Fraction, SectionShare};
 ghost use Rattle.strips.specs.Strips.{part, between, innerNegative, outerNegative, share, ShareOf, columnStrip, evenStrip, split};
 
 // k + floor((p − q)/d), the floor toward minus infinity.
@@ -64,10 +64,12 @@ fn share(total: u64, n: u64, d: u64) -> u64
     total * n / d
 }
 
-fn split(total: u64, column: u64, a: u64) -> Strips
-    requires { ⌜ Parted total column a ⌝ }
-    ensures { λ r. ⌜ r ≡ split total column a ⌝ }
+// The column strip takes n parts of d of the total; the middle strip and the slab are what is left.
+fn divided(total: u64, n: u64, d: u64, a: u64) -> Strips
+    requires { ⌜ SectionShare total n d a ⌝ }
+    ensures { λ r. ⌜ r ≡ split total (share total n d) a ⌝ }
 {
+    let column = share(total, n, d);
     let beam = share(column, 85 * a / 100, 10000);
     Strips {
         total: total as u32,
@@ -76,13 +78,6 @@ fn split(total: u64, column: u64, a: u64) -> Strips
         beam: beam as u32,
         slab: (column - beam) as u32,
     }
-}
-
-fn divided(total: u64, n: u64, d: u64, a: u64) -> Strips
-    requires { ⌜ SectionShare total n d a ⌝ }
-    ensures { λ r. ⌜ r ≡ split total (share total n d) a ⌝ }
-{
-    split(total, share(total, n, d), a)
 }
 
 // Evenly: the column strip takes what its width has of the frame width.
