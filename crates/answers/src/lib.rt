@@ -2,7 +2,7 @@
 ghost use mathlib.Core.Path.{_≡_};
 ghost use Rattle.answers.specs.Answers.{answer};
 
-// A refusal number, or 0 and what was asked; laid out as C has it, for the product's face.
+// A refusal number, or 0 and what was asked; laid out as in C, for the product's face.
 #[repr(C)]
 pub struct Answer {
     pub refusal: u32,

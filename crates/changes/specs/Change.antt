@@ -19,7 +19,7 @@ changeKind c = kindAt c 0
 abbrev pub changeIndex : List ℕ → ℕ
 changeIndex c = indexAt c 0
 
--- "of kind 3 or 5..9", and not "an index the floor lacks": what a floor has goes by its bays
+-- "of kind 3 or 5..9", and not "an index the floor lacks": the bays decide what a floor has
 abbrev pub hasRecord : Bays → ℕ → ℕ → Bool
 hasRecord b k i = changeable k && ltb i (countOf (b .x) (b .y) k)
 

@@ -20,7 +20,7 @@ pub record Values (a : List ℕ) (n : ℕ) : Type 0 where
 pub record Ratio (k : ℕ) : Type 0 where
   pub most : k ≤ 5
 
--- the sum of two α and a span, of which p and q are worked out
+-- the sum of two α and a span, from which p and q are worked out
 pub record Share (pair span : ℕ) : Type 0 where
   pub pair-most : pair ≤ 400000000
   pub span-most : span ≤ 12000

@@ -1,4 +1,4 @@
-// Spans, beams and offsets, for a reader who has the bays at hand: they are counted once for a call, and not for each field.
+// Spans, beams and offsets, for a reader that has the bays at hand: they are read once for a call, and not for each field.
 ghost use mathlib.Core.Path.{_≡_};
 ghost use mathlib.Core.Bool.{cond};
 ghost use Prim.Native.Nat.{_+_, _≤_};

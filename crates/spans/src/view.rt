@@ -26,7 +26,7 @@ pub struct LineView {
     pub depth: u32,
 }
 
-// Of an end: at an outer line, the code of that side and the beam there; else zeros.
+// Of an end: at an outer line, the code of that side and the beam there; otherwise zeros.
 pub struct EndView {
     pub outer: bool,
     pub code: u32,

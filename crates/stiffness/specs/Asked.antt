@@ -40,7 +40,7 @@ pub record Frame (W : ℕ) : Type 0 where
   pub least : 600 ≤ W
   pub most : W ≤ 12000
 
--- a beam's depth over the slab: refusal 7 asks that it is above t
+-- a beam's depth over the slab: refusal 7 asks for more than t
 pub record Deeper (h t : ℕ) : Type 0 where
   pub above : t < h
   pub most : h ≤ 1500

@@ -44,7 +44,7 @@ layoutRow Everywhere = 1
 layoutRow Bare = 2
 layoutRow OuterOnly = 3
 
--- "The side's own code decides first, then the layout": 1 unrestrained, 2 fully restrained, else columns
+-- "The side's own code decides first, then the layout": 1 unrestrained, 2 fully restrained, any other code columns
 unfoldable pub endRow : ℕ → Layout → ℕ
 endRow code layout = cond (eqb code 1) 0 (cond (eqb code 2) 4 (layoutRow layout))
 

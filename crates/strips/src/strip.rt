@@ -80,7 +80,7 @@ fn divided(total: u64, n: u64, d: u64, a: u64) -> Strips
     }
 }
 
-// Evenly: the column strip takes what its width has of the frame width.
+// Evenly: the column strip takes as much of the total as its width is of the frame width.
 pub fn evenly(total: u64, strip: u64, width: u64, a: u64) -> Strips
     requires { ⌜ SectionShare total strip width a ⌝ }
     ensures { λ r. ⌜ r ≡ split total (evenStrip total strip width) a ⌝ }
@@ -88,7 +88,7 @@ pub fn evenly(total: u64, strip: u64, width: u64, a: u64) -> Strips
     divided(total, strip, width, a)
 }
 
-// By a column strip part: as much as it has of 10000.
+// By a column strip part of 10000.
 pub fn by_part(total: u64, part: u64, a: u64) -> Strips
     requires { ⌜ SectionShare total part 10000 a ⌝ }
     ensures { λ r. ⌜ r ≡ split total (columnStrip total part) a ⌝ }

@@ -20,5 +20,5 @@ pub data Names (f : List ℕ) (kind index : ℕ) (p : Place) : Type 0 where
   own-line : kind ≡ lineKind (p .way) → p .line ≡ index → Names f kind index p
   -- ".. for j = 0 the first span of every y line .. y likewise."
   first-span : kind ≡ lineKind (across (p .way)) → index ≡ 0 → p .span ≡ 0 → Names f kind index p
-  -- ".. for j = ny the last; y likewise." The last line across is numbered as many as this line has spans.
+  -- ".. for j = ny the last; y likewise." The last line across is line n, where n is the number of spans of this line.
   last-span : kind ≡ lineKind (across (p .way)) → index ≡ bays f (p .way) → p .span + 1 ≡ bays f (p .way) → Names f kind index p
