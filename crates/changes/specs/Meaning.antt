@@ -11,7 +11,7 @@ use Rattle.plan.specs.Plan.{many}
 use Rattle.floor.specs.Refusal.{refusal}
 use Rattle.changes.specs.Change.{changeKind, changeIndex, changed}
 
--- 9 "a change is not 16 bytes, not of kind 3 or 5..9, has an index the floor lacks, or an unlisted field not zero": it is none of these
+-- 9 "a change is not 16 bytes, not of kind 3 or 5..9, has an index the floor lacks, or an unlisted field not zero": the change has none of these faults
 pub record Fitting (f c : List ℕ) : Type 0 where
   pub full : length c ≡ 16
   pub kind : Changeable (changeKind c)

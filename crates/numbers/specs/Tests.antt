@@ -5,10 +5,11 @@ use mathlib.Core.Path.{_≡_}
 use Prim.Native.Nat.{ℕ, zero, suc, _<_}
 use lib.Dec.{leb}
 
--- the answer of a loop that stops with w at the first number below n whose test answers w, and otherwise ends with the other answer
+-- either, where w is true, or both
 abbrev pub joined : Bool → Bool → Bool → Bool
 joined w a b = cond w (a || b) (a && b)
 
+-- the answer of a loop that stops with w at the first number below n whose test answers w, and otherwise ends with the other answer
 unfoldable pub until : Bool → ℕ → (ℕ → Bool) → Bool
 until w zero p = not w
 until w (suc n) p = joined w (until w n p) (p n)
