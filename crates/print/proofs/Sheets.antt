@@ -4,7 +4,7 @@ use Prim.Native.Nat.{ℕ, _+_, _≤_, zero-le}
 use mathlib.Core.List.{List, [], _∷_}
 use mathlib.Core.Path.{_≡_, sym, ap, _∙_}
 use native.Mathlib.Omega.{arith}
-use lib.ListN.{length, take, length-append}
+use lib.ListN.{length, length-append}
 use borrow.Author.Tests.{ne-eqb, eq-eqb}
 use Rattle.numbers.proofs.Tests.{says-eq, by-test}
 use Rattle.sheets.specs.Text.{line, lines}
@@ -57,7 +57,7 @@ pub whole : {f t out t′ out′ : List ℕ} {r : Start} {x : ℕ} → Began f t
 unfolding sheetText
 whole {f} {t} b e = omega (arith, b .first .ends, e, ap length (b .rest), length-append (firstLine f t) (recordLines f t))
 
--- no second place where the first line ends, no second line, and no second lines after it
+-- no second place where the first line ends, no second buffer, and no second lines after it
 pub began-one : {f t out t′ out′ u′ v′ : List ℕ} {r s : Start} → Began f t out r t′ out′ → Began f t out s u′ v′ →
-    (r .end ≡ s .end) × (take (r .end) out′ ≡ take (s .end) v′) × (lines recordWidth (r .records) t′ ≡ lines recordWidth (s .records) u′)
+    (r .end ≡ s .end) × (out′ ≡ v′) × (lines recordWidth (r .records) t′ ≡ lines recordWidth (s .records) u′)
 began-one b d = (wrote-one (b .first) (d .first) .0, wrote-one (b .first) (d .first) .1, b .rest ∙ sym (d .rest))

@@ -3,12 +3,12 @@
 use mathlib.Core.Path.{_≡_}
 use mathlib.Core.List.{List, _++_}
 use Prim.Native.Nat.{ℕ, _+_, _*_, _≤_}
-use lib.ListN.{length, take}
+use lib.ListN.{length, take, drop}
 
--- new is old with the text at `at`, and the text ends at r; what follows r is not said
+-- new is old with the text at `at`, all other bytes as they were, and the text ends at r
 pub record Wrote (old : List ℕ) (at : ℕ) (text new : List ℕ) (r : ℕ) : Type 0 where
   pub ends : r ≡ at + length text
-  pub reads : take r new ≡ take at old ++ text
+  pub whole : new ≡ take at old ++ text ++ drop r old
   pub same-length : length new ≡ length old
 
 -- count records of width numbers lie in the table from `from` on, and have room in out from `at` on:

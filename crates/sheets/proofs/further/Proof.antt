@@ -35,7 +35,7 @@ further-spec =
     (λ c. search needs)
     (λ c. (
       wrote-as (sym (further-more (c .before .before .before .before .before .before .before .before .before .before .before .before .before .args .table .now) (c .before .before .before .before .before .before .before .before .before .before .before .before .before .args .from) (c .before .before .before .before .before .before .before .before .before .before .loop .i) (omega arith)))
-          (wrote-then (c .before .before .before .before .before .before .before .before .before .before .loop .inv .0) (wrote-then (wrote-mark 32 (c .before .before .before .before .before .before .before .mark .ensures) refl) (c .before .before .number .ensures .0))),
+          (wrote-then (omega arith) (c .before .before .before .before .before .before .before .before .before .before .loop .inv .0) (wrote-then (omega arith) (wrote-mark 32 (c .before .before .before .before .before .before .before .mark .ensures) refl) (c .before .before .number .ensures .0))),
       search needs,
       search needs,
     ))

@@ -4,7 +4,7 @@ use mathlib.Core.Path.{_≡_, _∙_}
 use mathlib.Core.List.{List}
 use Prim.Native.Nat.{ℕ, _-_, _≤_}
 use native.Mathlib.Omega.{arith}
-use lib.ListN.{length, take, drop, length-take, length-drop}
+use lib.ListN.{length, take, drop, length-take, length-drop, take-append-drop}
 use Rattle.sheets.specs.Text.{decimal}
 use Rattle.sheets.proofs.Decimals.{at-most, decimal-fewest}
 use Rattle.sheets.proofs.Writing.{wrote-copy}
@@ -47,6 +47,7 @@ number-spec =
     (λ c. let text : take (count c) (c .before .before .before .before .before .decimal .last .1 .0) ≡ decimal (value c) =
     c .before .before .before .before .before .decimal .ensures .1 .1 ∙ decimal-fewest (value c) (count c) (omega arith) (c .before .before .before .before .before .decimal .ensures .1 .0) in (
       wrote-copy (buffer c) (take (count c) (c .before .before .before .before .before .decimal .last .1 .0)) (decimal (value c)) (take (length (buffer c) - place c) (rest c)) _ (drop (length (buffer c) - place c) (rest c)) (place c) (count c)
-          (omega arith) (c .before .before .before .before .before .decimal .ensures .0 .1) text (c .before .before .copy .ensures .1) (search needs),
+          (omega arith) (c .before .before .before .before .before .decimal .ensures .0 .1) text (simp (length-take, length-drop) (omega (arith, few c)))
+          (take-append-drop (length (buffer c) - place c) (rest c)) (c .before .before .copy .ensures .1) (search needs),
       omega (arith, few c),
     )))

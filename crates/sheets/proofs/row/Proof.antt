@@ -22,6 +22,6 @@ row-spec =
     (λ c. search needs)
     (λ c. (
       wrote-as (line-first (c .before .before .before .before .before .before .before .before .before .before .before .before .before .before .before .args .table .now) (c .before .before .before .before .before .before .before .before .before .before .before .before .before .before .before .args .from) (c .before .before .before .before .before .before .before .before .before .before .before .before .before .before .before .args .n) (omega arith) (omega arith))
-          (wrote-then (wrote-then (c .before .before .before .before .before .before .before .before .before .before .number .ensures .0) (c .before .before .before .before .before .before .further .ensures .0)) (wrote-mark 10 (c .before .before .mark .ensures) refl)),
+          (wrote-then (omega arith) (wrote-then (omega arith) (c .before .before .before .before .before .before .before .before .before .before .number .ensures .0) (c .before .before .before .before .before .before .further .ensures .0)) (wrote-mark 10 (c .before .before .mark .ensures) refl)),
       search needs,
     )))

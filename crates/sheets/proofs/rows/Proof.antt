@@ -1,7 +1,7 @@
 -- Each turn adds a record's line to the text (lines-more); the records before k end where k starts.
 -- Assumes nothing.
 use mathlib.Core.Path.{_≡_, sym}
-use Prim.Native.Nat.{_+_, _*_, _-_, _≤_}
+use Prim.Native.Nat.{_+_, _*_, _-_, _≤_, zero-le}
 use native.Mathlib.Nat.{mul-le-mul-right}
 use native.Mathlib.Omega.{arith}
 use borrow.Author.Needs.{needs}
@@ -28,7 +28,7 @@ loop-again c =
     let start = c .before .before .before .before .before .before .before .before in
     let turn = c .before .before .before .before .before in (
       wrote-as (sym (lines-more (start .args .width) (turn .loop .k) (start .args .first * start .args .width) (turn .loop .from) (start .args .table .now) (turn .loop .inv .1)))
-          (wrote-then (turn .loop .inv .0) (c .before .before .row .ensures .0)),
+          (wrote-then zero-le (turn .loop .inv .0) (c .before .before .row .ensures .0)),
       omega arith,
       omega arith,
       search needs,
