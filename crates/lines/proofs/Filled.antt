@@ -4,6 +4,7 @@
 --     filled                       α of lines that stand one after another
 --     both-spans, both-alphas      a row for each direction
 --     one-row                      no second row of α
+--     one-spans, one-alphas, one-panel-alphas    no second array of both rows
 --     pair-in, pair-is             the two beside a bay, and their sum
 --     beside, at-panel             α of all lines has that of two, and of a panel's four
 --     clearing-x, clearing-y       a panel's two clear spans
@@ -37,7 +38,7 @@ use Rattle.thickness.specs.LeastThickness.{leastThickness}
 use Rattle.lines.specs.declared.slab.Slab.{Slab}
 use Rattle.lines.specs.Lines.{lineAlpha, pairAlpha, clearSpan, outerPanel, edgePlace, panelPlace, isEverywhere, panelView, panelThickness}
 use Rattle.lines.specs.Slabs.{slabOf}
-use Rattle.lines.specs.Rows.{Alphas, ZeroElse, Spans, AllSpans, AllAlphas, AlphaRows, rowOf, pairAt}
+use Rattle.lines.specs.Rows.{Alphas, ZeroElse, Spans, AllSpans, AllAlphas, AlphaRows, PanelAlphaRows, TwoRows, rowOf, pairAt}
 use Rattle.lines.specs.Asked.{TwoAlphas, Clearing, Ready, PanelAtHand, AtPanel}
 use Rattle.lines.proofs.Floors.{alpha-bound, panel-in}
 
@@ -130,6 +131,32 @@ one-row {f} {d} {from} {to} {a} {b} la lb p q =
             | no m ↦ p .0 .is k (omega (arith, l)) (omega (arith, m)) ∙ sym (q .0 .is k (omega (arith, l)) (omega (arith, m)))
           ]
     ])
+
+-- two arrays whose rows are the same are one
+same-rows : {a b : List (List ℕ)} → TwoRows a → TwoRows b → ((d : Way) → rowOf a d ≡ rowOf b d) → a ≡ b
+same-rows {a} {b} p q same =
+    ext-getD [] a b (p .two ∙ sym (q .two)) (λ k h.
+    elim (decLt k 1) [
+      | yes l ↦ let e : k ≡ 0 = omega arith in rw e (same X)
+      | no l ↦ let e : k ≡ 1 = omega (arith, h, p .two, l) in rw e (same Y)
+    ])
+
+module _ {f : List ℕ} {a b : List (List ℕ)} (p : TwoRows a) (q : TwoRows b) where
+  pub one-spans : AllSpans f a → AllSpans f b → a ≡ b
+  one-spans v w =
+      same-rows p q (λ d.
+      ext-getD 0 (rowOf a d) (rowOf b d) (p .thirteen d ∙ sym (q .thirteen d)) (λ k h.
+      v d .is k (omega (arith, h, p .thirteen d)) ∙ sym (w d .is k (omega (arith, h, p .thirteen d)))))
+
+  pub one-alphas : AlphaRows f a → AlphaRows f b → a ≡ b
+  one-alphas v w = same-rows p q (λ d. one-row (p .thirteen d) (q .thirteen d) (v .known d, v .rest d) (w .known d, w .rest d))
+
+  pub one-panel-alphas : {i j : ℕ} → PanelAlphaRows f i j a → PanelAlphaRows f i j b → a ≡ b
+  one-panel-alphas {i} {j} v w = same-rows p q same
+    where
+      same : (d : Way) → rowOf a d ≡ rowOf b d
+      same X = one-row (p .thirteen X) (q .thirteen X) (v .known .x, v .rest-x) (w .known .x, w .rest-x)
+      same Y = one-row (p .thirteen Y) (q .thirteen Y) (v .known .y, v .rest-y) (w .known .y, w .rest-y)
 
 module _ (f : List ℕ) {slab : Slab} {s a : List (List ℕ)} (i j : ℕ) (p : AtPanel f slab s a i j) where
   abbrev at : PanelAtHand f slab s i j

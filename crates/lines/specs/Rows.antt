@@ -4,7 +4,7 @@ use Prim.Native.Nat.{ℕ, _+_, _≤_, _<_}
 use mathlib.Core.List.{List, []}
 use mathlib.Core.Logic.{_⊎_}
 use mathlib.Core.Path.{_≡_}
-use lib.ListN.{getD}
+use lib.ListN.{getD, length}
 use Rattle.plan.specs.declared.ways.Way.{Way}
 use Rattle.plan.specs.declared.ways.Way.the-variants.{X, Y}
 use Rattle.plan.specs.Ways.{pick}
@@ -23,6 +23,11 @@ pub record Alphas (f : List ℕ) (d : Way) (from to : ℕ) (a : List ℕ) : Type
 -- a row for each direction
 abbrev pub rowOf : List (List ℕ) → Way → List ℕ
 rowOf rows d = getD rows (pick d 0 1) []
+
+-- what the type `[[u64; 13]; 2]` says of an array
+pub record TwoRows (rows : List (List ℕ)) : Type 0 where
+  pub two : length rows ≡ 2
+  pub thirteen : (d : Way) → length (rowOf rows d) ≡ 13
 
 abbrev pub AllSpans : List ℕ → List (List ℕ) → Type 0
 AllSpans f s = (d : Way) → Spans f d (rowOf s d)
