@@ -1,8 +1,10 @@
--- The two ways that a sheet begins: with its first line alone, or with the records of the table that opening filled to follow.
+-- The two ways that a sheet begins: with its first line alone, or with the records of the table that opening filled to follow. Either way the
+-- line and the records are the sheet's text (whole), and nothing else keeps the promise (began-one).
 -- Assumes nothing.
 use Prim.Native.Nat.{ℕ, _+_, _≤_, zero-le}
 use mathlib.Core.List.{List, [], _∷_}
-use mathlib.Core.Path.{_≡_, sym, ap, _∙_}
+use mathlib.Core.Path.{_≡_, refl, sym, ap, _∙_}
+use native.Mathlib.Decide.{decLe}
 use native.Mathlib.Omega.{arith}
 use lib.ListN.{length, length-append}
 use borrow.Author.Tests.{ne-eqb, eq-eqb}
@@ -31,33 +33,51 @@ module _ {f t : List ℕ} {a : Answer} {u old mid : List ℕ} {m : ℕ} (o : Ope
   first : Wrote old 0 (firstLine f t) mid m
   first = wrote-as (rw (o .answer)) w
 
+  table : Opened f (lent t) (answerOf f t) (lent u)
+  table = record { answer = refl; lent = o .lent }
+
   value-of : a .value ≡ answerOf f t .value
   value-of = ap (λ (x : Answer). x .value) (o .answer)
 
   pub ends-there : (a .value ≡ 0 → ⊥) → Began f t old (record { end = m; records = 0 }) u mid
   ends-there ne = record {
     first = first;
-    rest = sym (rw (ne-eqb (answerOf f t .value) 0 (λ z. ne (value-of ∙ z))));
+    table = table;
+    follow = sym (rw (ne-eqb (answerOf f t .value) 0 (λ z. ne (value-of ∙ z))));
     most = zero-le;
   }
 
-  filled : a .value ≡ 0 → u ≡ fresh f t
-  filled z = ap (λ (x : Lent). x .table) (o .lent ∙ rw (not-refused (openRefusal f (lent t)) (verdict f) (sym value-of ∙ z)))
-
   pub goes-on : {n : ℕ} → a .value ≡ 0 → n ≡ recordCount f → n ≤ 312 → Began f t old (record { end = m; records = n }) u mid
-  goes-on z e few = record {
-    first = first;
-    rest = rw (eq-eqb (answerOf f t .value) 0 (sym value-of ∙ z), e, filled z);
-    most = few;
-  }
+  goes-on z e few = record { first = first; table = table; follow = rw (eq-eqb (answerOf f t .value) 0 (sym value-of ∙ z)) e; most = few }
 
--- the bytes of the first line, and of the records that follow
-pub whole : {f t out t′ out′ : List ℕ} {r : Start} {x : ℕ} → Began f t out r t′ out′ → x ≡ length (lines recordWidth (r .records) t′) →
-    r .end + x ≡ length (sheetText f t)
-unfolding sheetText
-whole {f} {t} b e = omega (arith, b .first .ends, e, ap length (b .rest), length-append (firstLine f t) (recordLines f t))
+module _ {f t out t′ out′ : List ℕ} {r : Start} (b : Began f t out r t′ out′) where
+  filled : answerOf f t .value ≡ 0 → t′ ≡ fresh f t
+  filled z = ap (λ (x : Lent). x .table) (b .table .lent ∙ rw (not-refused (openRefusal f (lent t)) (verdict f) z))
 
--- no second place where the first line ends, no second buffer, and no second lines after it
+  rest : lines recordWidth (r .records) t′ ≡ recordLines f t
+  rest =
+      elim (decLe (answerOf f t .value) 0) [
+        | yes h ↦
+            let z : answerOf f t .value ≡ 0 = omega (arith, h) in
+            let e : r .records ≡ recordCount f = rw (eq-eqb (answerOf f t .value) 0 z) at (b .follow) in
+            rw (eq-eqb (answerOf f t .value) 0 z, e, filled z)
+        | no h ↦
+            let ne : answerOf f t .value ≡ 0 → ⊥ = λ z. h (omega (arith, z)) in
+            let e : r .records ≡ 0 = rw (ne-eqb (answerOf f t .value) 0 ne) at (b .follow) in
+            rw (ne-eqb (answerOf f t .value) 0 ne, e)
+      ]
+
+  -- the bytes of the first line, and of the records that follow
+  pub whole : {x : ℕ} → x ≡ length (lines recordWidth (r .records) t′) → r .end + x ≡ length (sheetText f t)
+  unfolding sheetText
+  whole e = omega (arith, b .first .ends, e, ap length rest, length-append (firstLine f t) (recordLines f t))
+
+-- no second answer, table or buffer
 pub began-one : {f t out t′ out′ u′ v′ : List ℕ} {r s : Start} → Began f t out r t′ out′ → Began f t out s u′ v′ →
-    (r .end ≡ s .end) × (out′ ≡ v′) × (lines recordWidth (r .records) t′ ≡ lines recordWidth (s .records) u′)
-began-one b d = (wrote-one (b .first) (d .first) .0, wrote-one (b .first) (d .first) .1, b .rest ∙ sym (d .rest))
+    (r .end ≡ s .end) × (r .records ≡ s .records) × (t′ ≡ u′) × (out′ ≡ v′)
+began-one b d = (
+  wrote-one (b .first) (d .first) .0,
+  b .follow ∙ sym (d .follow),
+  ap (λ (x : Lent). x .table) (b .table .lent ∙ sym (d .table .lent)),
+  wrote-one (b .first) (d .first) .1,
+)

@@ -15,7 +15,7 @@ use Rattle.tables.specs.Width.{recordWidth}
 use Rattle.tables.specs.Places.{recordCount}
 use Rattle.moments.specs.Lent.{lent}
 use Rattle.moments.specs.Tables.{fresh}
-use Rattle.moments.specs.Opening.{openRefusal}
+use Rattle.moments.specs.Opening.{openRefusal, Opened}
 use Rattle.answers.specs.Answers.{answered}
 use Rattle.print.specs.declared.Start.{Start}
 
@@ -32,10 +32,11 @@ recordLines f t = cond (eqb (answerOf f t .value) 0) (lines recordWidth (recordC
 unfoldable pub sheetText : List ℕ → List ℕ → List ℕ
 sheetText f t = firstLine f t ++ recordLines f t
 
--- the first line is written at the start of out, and the first records of the table left are those that follow it
+-- the first line is written at the start of out, the table is as opening leaves it, and its records follow where there are any to print
 pub record Began (f t out : List ℕ) (r : Start) (t′ out′ : List ℕ) : Type 0 where
   pub first : Wrote out 0 (firstLine f t) out′ (r .end)
-  pub rest : lines recordWidth (r .records) t′ ≡ recordLines f t
+  pub table : Opened f (lent t) (answerOf f t) (lent t′)
+  pub follow : r .records ≡ cond (eqb (answerOf f t .value) 0) (recordCount f) 0
   pub most : r .records ≤ 312
 
 -- room for the table of the largest floor, which has 312 records

@@ -1,23 +1,21 @@
 // The printing program (01): a floor from standard input; its refusal and verdict; at verdict 0 its table, a line for each record.
-ghost use mathlib.Core.Path.{_≡_};
-ghost use Prim.Native.Nat.{_<_};
-ghost use lib.ListN.{length};
+mod input;
+
 ghost use Rattle.sheets.specs.Wrote.{Line};
+ghost use Rattle.sheets.specs.Pieces.{Printed};
 ghost use Rattle.print.specs.Sheet.{sheetText, Began, Space};
-use libc::STDIN_FILENO;
+use input::read_floor;
+use libc::STDERR_FILENO;
 use libc::STDOUT_FILENO;
 use plan::read::bays_of;
 use sheets::pair;
+use sheets::pieces::Sent;
 use sheets::pieces::write_rows;
 use tables::places::record_count;
 use tables::write::WIDTH;
 
 // The table of the largest floor, 12 by 12 bays: 312 records.
 const LARGEST: usize = 312 * WIDTH;
-
-// The largest floor has 3,568 bytes. Of an input of 3,584 bytes or more the refusal is 1, 2 or 3, and depends on its first record and on
-// its length modulo 16 alone (`long-alike`), so that many bytes and the length modulo 16 of what follows stand for all of it.
-const LONG: usize = 3584;
 
 // Where the first line ends, and how many records follow.
 struct Start {
@@ -44,55 +42,50 @@ fn begin(floor: &[u8], table: &mut [u32], out: &mut [u8]) -> Start
     }
 }
 
-// Prints a floor, and answers how many bytes that took.
-fn sheet(floor: &[u8], table: &mut [u32]) -> usize
+// Prints a floor. Where a write fails, nothing is written after it.
+fn sheet(floor: &[u8], table: &mut [u32]) -> Sent
     requires { ⌜ Space (now table) ⌝ }
-    ensures { λ r. ⌜ r ≡ length (sheetText (now (floor .entry)) (now (table .entry))) ⌝ }
+    ensures { λ r. ⌜ Printed (sheetText (now (floor .entry)) (now (table .entry))) r ⌝ }
 {
     let mut out = [0u8; 22];
     let start = begin(floor, table, &mut out);
     let end = start.end;
     let records = start.records as usize;
-    io::write_all(STDOUT_FILENO, &out[..end]);
-    end + write_rows(table, WIDTH, records)
+    if !io::write_all(STDOUT_FILENO, &out[..end]) {
+        return Sent {
+            whole: false,
+            bytes: 0,
+        };
+    }
+    let rest = write_rows(table, WIDTH, records);
+    let bytes = rest.bytes;
+    Sent {
+        whole: rest.whole,
+        bytes: end + bytes,
+    }
 }
 
-fn show(floor: &[u8]) {
+// Prints a floor, and answers whether all of its sheet was taken.
+fn show(floor: &[u8]) -> bool {
     let mut table = [0u32; LARGEST];
-    sheet(floor, &mut table);
+    let sent = sheet(floor, &mut table);
+    sent.whole
 }
 
-// Reads once, and answers how many bytes came.
-fn skip_some() -> usize {
-    let mut bytes = io::large_buffer();
-    let got = libc::read(STDIN_FILENO, &mut bytes);
-    io::count(got, &bytes)
-}
-
-// The length modulo 16 of what is left of the input, of which nothing is kept.
-fn skip_rest() -> usize
-    ensures { λ r. ⌜ r < 16 ⌝ }
-{
-    let mut rest: usize = 0;
-    let mut turns = u64::MAX;
-    while turns > 0 {
-        let n = skip_some();
-        if n == 0 {
-            break;
-        }
-        rest = (rest + n % 16) % 16;
-        turns -= 1;
-    }
-    rest
-}
-
+// The language has no exit status: where one of these lines is said, `./run` ends with 1.
 fn main() {
-    let mut bytes = [0u8; 3599];
-    let n = io::read_full(STDIN_FILENO, &mut bytes);
-    if n < LONG {
-        show(&bytes[..n]);
-        return;
+    let mut bytes = io::large_buffer();
+    let input = read_floor(&mut bytes);
+    let n = input.bytes;
+    if input.failed {
+        io::write_all(
+            STDERR_FILENO,
+            b"print: standard input cannot be read, and no sheet is printed\n",
+        );
+    } else if !show(&bytes[..n]) {
+        io::write_all(
+            STDERR_FILENO,
+            b"print: standard output cannot be written, and the sheet is not whole\n",
+        );
     }
-    let rest = (n + skip_rest()) % 16;
-    show(&bytes[..LONG + rest]);
 }

@@ -1,12 +1,14 @@
--- A piece has some of the records that are left, no more than that, and fits.
+-- A piece has some of the records that are left, no more than that, and fits; of what was not taken whole nothing is promised.
 -- Assumes nothing.
 use Prim.Native.Nat.{ℕ, _+_, _*_, _/_, _≤_, _<_}
+use mathlib.Core.Bool.{false, false≢true}
+use mathlib.Core.List.{List}
 use mathlib.Core.Path.{_≡_}
 use native.Mathlib.Decide.{decLe}
 use native.Mathlib.Nat.{div-mul-le-self, le-div-iff-mul-le}
 use native.Mathlib.Omega.{arith}
 use borrow.Author.Tests.{lt-ltb, le-ltb}
-use Rattle.sheets.specs.Pieces.{piece}
+use Rattle.sheets.specs.Pieces.{piece, Printed}
 
 -- what holds of either number that a piece can have
 by-piece : (P : ℕ → Type 0) (w left : ℕ) → (left ≤ 5957 / w → P left) → (5957 / w ≤ left → P (5957 / w)) → P (piece w left)
@@ -26,3 +28,6 @@ module _ (w left n : ℕ) (e : n ≡ piece w left) (some : 1 ≤ w) where
 
   pub piece-fits : n * w ≤ 5957
   piece-fits = rw e (by-piece (λ m. m * w ≤ 5957) w left (λ h. le-div-iff-mul-le some .0 h) (λ _. div-mul-le-self 5957 w))
+
+pub cut-off : {text : List ℕ} {n : ℕ} → Printed text (record { whole = false; bytes = n })
+cut-off = record { all = λ e. absurd (false≢true e) }

@@ -1,10 +1,11 @@
 // Lines of decimal numbers on standard output, as many at a time as surely fit a buffer. No contract can say what was written: each piece's
-// text is `rows`'s, and the bytes of all pieces, counted, are as many as the whole text has, so none is left out or written twice.
+// text is `rows`'s, and where every write took all that it was handed, the bytes of all pieces, counted, are as many as the whole text has, so
+// none is left out or written twice.
 ghost use mathlib.Core.Path.{_≡_};
 ghost use Prim.Native.Nat.{_*_, _≤_};
 ghost use lib.ListN.{length, drop};
 ghost use Rattle.sheets.specs.Text.{lines};
-ghost use Rattle.sheets.specs.Pieces.{piece, Piece, Sheet};
+ghost use Rattle.sheets.specs.Pieces.{piece, Piece, Sheet, Printed};
 use crate::rows;
 use libc::STDOUT_FILENO;
 
@@ -20,28 +21,47 @@ fn fitting(width: usize, left: usize) -> usize
     if left < most { left } else { most }
 }
 
-// Writes `count` records from record `first` on, and answers how many bytes they took.
-fn write_piece(table: &[u32], width: usize, first: usize, count: usize) -> usize
+// What went to standard output: whether every write took all that it was handed, and how many bytes those were.
+pub struct Sent {
+    pub whole: bool,
+    pub bytes: usize,
+}
+
+// Writes `count` records from record `first` on.
+fn write_piece(table: &[u32], width: usize, first: usize, count: usize) -> Sent
     requires { ⌜ Piece (now table) width first count ⌝ }
-    ensures { λ r. ⌜ (r ≡ length (lines width count (drop (first * width) (now (table .entry))))) × (r ≤ 11 * (count * width)) ⌝ }
+    ensures { λ r. ⌜ (r .bytes ≡ length (lines width count (drop (first * width) (now (table .entry))))) × (r .bytes ≤ 11 * (count * width)) ⌝ }
 {
     let mut out = io::large_buffer();
     let end = rows(table, width, first, count, &mut out);
-    io::write_all(STDOUT_FILENO, &out[..end]);
-    end
+    let whole = io::write_all(STDOUT_FILENO, &out[..end]);
+    Sent {
+        whole: whole,
+        bytes: end,
+    }
 }
 
-// Writes the first `count` records of `width` numbers of the table, each as a line, and answers how many bytes they took.
-pub fn write_rows(table: &[u32], width: usize, count: usize) -> usize
+// Writes the first `count` records of `width` numbers of the table, each as a line, up to a write that fails.
+pub fn write_rows(table: &[u32], width: usize, count: usize) -> Sent
     requires { ⌜ Sheet (now table) width count ⌝ }
-    ensures { λ r. ⌜ (r ≡ length (lines width count (now (table .entry)))) × (r ≤ 11 * (count * width)) ⌝ }
+    ensures { λ r. ⌜ Printed (lines width count (now (table .entry))) r × (r .bytes ≤ 11 * (count * width)) ⌝ }
 {
     let mut total: usize = 0;
     let mut done: usize = 0;
     while done < count {
         let n = fitting(width, count - done);
-        total += write_piece(table, width, done, n);
+        let piece = write_piece(table, width, done, n);
+        total += piece.bytes;
+        if !piece.whole {
+            return Sent {
+                whole: false,
+                bytes: total,
+            };
+        }
         done += n;
     }
-    total
+    Sent {
+        whole: true,
+        bytes: total,
+    }
 }

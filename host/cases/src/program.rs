@@ -6,7 +6,7 @@ use std::process::{Command, Stdio};
 use std::thread;
 
 /// The script beside host that runs a program which is built there. The program must be built.
-fn run_script(name: &str) -> PathBuf {
+pub fn run_script(name: &str) -> PathBuf {
     let root = Path::new(env!("CARGO_MANIFEST_DIR")).join("../..");
     let program = root.join("target/bin").join(name);
     assert!(
@@ -17,8 +17,8 @@ fn run_script(name: &str) -> PathBuf {
     root.join("run")
 }
 
-/// What the program prints. It may stop reading once it knows what to print, and print before it has
-/// read all.
+/// What the program prints, and it must end with status 0. It may stop reading once it knows what to
+/// print, and print before it has read all.
 pub fn printed(name: &str, stdin: &[u8]) -> String {
     let mut child = Command::new(run_script(name))
         .arg(name)
@@ -35,7 +35,7 @@ pub fn printed(name: &str, stdin: &[u8]) -> String {
         });
         child.wait_with_output().unwrap()
     });
-    assert!(output.status.code().is_some(), "{}", output.status);
+    assert!(output.status.success(), "{name}: {}", output.status);
     String::from_utf8(output.stdout).unwrap()
 }
 

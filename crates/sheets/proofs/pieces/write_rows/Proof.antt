@@ -1,4 +1,5 @@
--- Each turn's bytes come to those of the records before it (lines-add); a piece has some of the records left and fits (Cuts).
+-- Each turn's bytes come to those of the records before it (lines-add); a piece has some of the records left and fits (Cuts). After a write
+-- that failed nothing is promised.
 -- Assumes nothing.
 use mathlib.Core.Path.{_≡_}
 use Prim.Native.Nat.{ℕ, _+_, _*_, _-_, _≤_, _<_}
@@ -9,7 +10,7 @@ use lib.ListN.{length}
 use Rattle.sheets.specs.Text.{lines}
 use Rattle.sheets.specs.Pieces.{piece}
 use Rattle.sheets.proofs.Texts.{lines-add}
-use Rattle.sheets.proofs.Cuts.{piece-some, piece-within, piece-fits}
+use Rattle.sheets.proofs.Cuts.{piece-some, piece-within, piece-fits, cut-off}
 use Rattle.sheets.proofs.pieces.write_rows.Statement.{statement}
 use Rattle.sheets.proofs.pieces.write_rows.Tie as tie
 
@@ -37,6 +38,42 @@ write-piece-requires c κs =
       fits = piece-fits _ _ _ (c .fitting .ensures) (start .pre .some);
     }
 
+add-total : tie.Need-add-total Inv-loop μ-loop
+add-total c =
+    let start = c .before .before .before .before .before .before in
+    omega (arith, held (start .pre .some) (c .before .before .before .loop-test .taken) (c .before .before .fitting .ensures))
+
+returns : tie.Need-returns Inv-loop μ-loop
+returns c =
+    let start = c .before .before .before .before .before .before .before .before in
+    (cut-off, omega (arith, held (start .pre .some) (c .before .before .before .before .before .loop-test .taken) (c .before .before .before .before .fitting .ensures)))
+
+add-done : tie.Need-add-done Inv-loop μ-loop
+add-done c =
+    let start = c .before .before .before .before .before .before .before .before in
+    omega (arith, few (start .pre .some) (c .before .before .before .before .before .loop-test .taken) (c .before .before .before .before .fitting .ensures))
+
+loop-less : tie.Need-loop-less Inv-loop μ-loop
+loop-less c =
+    let start = c .before .before .before .before .before .before .before .before in
+    let piece-is = c .before .before .before .before .fitting .ensures in
+    omega (arith, few (start .pre .some) (c .before .before .before .before .before .loop-test .taken) piece-is, piece-some _ _ _ piece-is (start .pre .some) (start .pre .fits) (omega arith))
+
+loop-again : tie.Need-loop-again Inv-loop μ-loop
+loop-again c =
+    let start = c .before .before .before .before .before .before .before .before in
+    let turn = c .before .before .before .before .before .before in
+    let cut = c .before .before .before .before in (
+      lines-add (start .args .width) (turn .loop .done) (cut .fitting .result) (start .args .table .now) (turn .loop .inv .0) (c .before .before .before .write-piece .ensures .0),
+      omega arith,
+      few (start .pre .some) (c .before .before .before .before .before .loop-test .taken) (cut .fitting .ensures),
+    )
+
+returns-2 : tie.Need-returns-2 Inv-loop μ-loop
+returns-2 c =
+    let done : c .before .loop .done ≡ c .before .before .before .args .count = omega arith in
+    (record { all = λ _. rw done at (c .before .loop .inv .0) }, rw done at (c .before .loop .inv .1))
+
 pub write-rows-spec : {M : Type 1} → statement M
 write-rows-spec =
     tie.close
@@ -47,14 +84,9 @@ write-rows-spec =
     (λ c. search needs)
     (λ c κs. search needs)
     write-piece-requires
-    (λ c. omega (arith, held (c .before .before .before .before .before .pre .some) (c .before .before .loop-test .taken) (c .before .fitting .ensures)))
-    (λ c. omega (arith, few (c .before .before .before .before .before .pre .some) (c .before .before .loop-test .taken) (c .before .fitting .ensures)))
-    (λ c. omega (arith, few (c .before .before .before .before .before .pre .some) (c .before .before .loop-test .taken) (c .before .fitting .ensures), piece-some _ _ _ (c .before .fitting .ensures) (c .before .before .before .before .before .pre .some) (c .before .before .before .before .before .pre .fits) (omega arith)))
-    (λ c. (
-      lines-add (c .before .before .before .before .before .args .width) (c .before .before .before .loop .done) (c .before .fitting .result) (c .before .before .before .before .before .args .table .now)
-          (c .before .before .before .loop .inv .0) (c .write-piece .ensures .0),
-      omega arith,
-      few (c .before .before .before .before .before .pre .some) (c .before .before .loop-test .taken) (c .before .fitting .ensures),
-    ))
-    (λ c. let done : c .before .loop .done ≡ c .before .before .before .args .count = omega arith in
-    (rw done at (c .before .loop .inv .0), rw done at (c .before .loop .inv .1))))
+    add-total
+    returns
+    add-done
+    loop-less
+    loop-again
+    returns-2)
