@@ -68,9 +68,9 @@ module _ {f t out t′ out′ : List ℕ} {r : Start} (b : Began f t out r t′ 
       ]
 
   -- the bytes of the first line, and of the records that follow
-  pub whole : {x : ℕ} → x ≡ length (lines recordWidth (r .records) t′) → r .end + x ≡ length (sheetText f t)
+  pub whole : {x y : ℕ} → x ≡ length (firstLine f t) → y ≡ length (lines recordWidth (r .records) t′) → x + y ≡ length (sheetText f t)
   unfolding sheetText
-  whole e = omega (arith, b .first .ends, e, ap length rest, length-append (firstLine f t) (recordLines f t))
+  whole e g = omega (arith, e, g, ap length rest, length-append (firstLine f t) (recordLines f t))
 
 -- no second answer, table or buffer
 pub began-one : {f t out t′ out′ u′ v′ : List ℕ} {r s : Start} → Began f t out r t′ out′ → Began f t out s u′ v′ →

@@ -6,10 +6,10 @@ ghost use Rattle.sheets.specs.Pieces.{Printed};
 ghost use Rattle.print.specs.Sheet.{sheetText, Began, Space};
 use input::read_floor;
 use libc::STDERR_FILENO;
-use libc::STDOUT_FILENO;
 use plan::read::bays_of;
 use sheets::pair;
 use sheets::pieces::Sent;
+use sheets::pieces::send;
 use sheets::pieces::write_rows;
 use tables::places::record_count;
 use tables::write::WIDTH;
@@ -51,17 +51,14 @@ fn sheet(floor: &[u8], table: &mut [u32]) -> Sent
     let start = begin(floor, table, &mut out);
     let end = start.end;
     let records = start.records as usize;
-    if !io::write_all(STDOUT_FILENO, &out[..end]) {
-        return Sent {
-            whole: false,
-            bytes: 0,
-        };
+    let first = send(&out[..end]);
+    if !first.whole {
+        return first;
     }
     let rest = write_rows(table, WIDTH, records);
-    let bytes = rest.bytes;
     Sent {
         whole: rest.whole,
-        bytes: end + bytes,
+        bytes: first.bytes + rest.bytes,
     }
 }
 

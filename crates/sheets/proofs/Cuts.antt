@@ -1,14 +1,19 @@
--- A piece has some of the records that are left, no more than that, and fits; of what was not taken whole nothing is promised.
+-- A piece has some of the records that are left, no more than that, and fits; what is sent of a buffer is the text written there; of what was
+-- not taken whole nothing is promised.
 -- Assumes nothing.
-use Prim.Native.Nat.{ℕ, _+_, _*_, _/_, _≤_, _<_}
+use Prim.Native.Nat.{ℕ, _+_, _*_, _/_, _≤_, _<_, zero-le}
 use mathlib.Core.Bool.{false, false≢true}
 use mathlib.Core.List.{List}
-use mathlib.Core.Path.{_≡_}
+use mathlib.Core.Path.{_≡_, sym, subst, _∙_}
 use native.Mathlib.Decide.{decLe}
 use native.Mathlib.Nat.{div-mul-le-self, le-div-iff-mul-le}
 use native.Mathlib.Omega.{arith}
 use borrow.Author.Tests.{lt-ltb, le-ltb}
+use lib.ListN.{take}
+use Rattle.sheets.specs.declared.pieces.Sent.{Sent}
+use Rattle.sheets.specs.Wrote.{Wrote}
 use Rattle.sheets.specs.Pieces.{piece, Printed}
+use Rattle.sheets.proofs.Writing.{wrote-there}
 
 -- what holds of either number that a piece can have
 by-piece : (P : ℕ → Type 0) (w left : ℕ) → (left ≤ 5957 / w → P left) → (5957 / w ≤ left → P (5957 / w)) → P (piece w left)
@@ -29,5 +34,9 @@ module _ (w left n : ℕ) (e : n ≡ piece w left) (some : 1 ≤ w) where
   pub piece-fits : n * w ≤ 5957
   piece-fits = rw e (by-piece (λ m. m * w ≤ 5957) w left (λ h. le-div-iff-mul-le some .0 h) (λ _. div-mul-le-self 5957 w))
 
-pub cut-off : {text : List ℕ} {n : ℕ} → Printed text (record { whole = false; bytes = n })
-cut-off = record { all = λ e. absurd (false≢true e) }
+-- what was written at the start of a buffer, sent from there
+pub sent-there : {old text new : List ℕ} {r : ℕ} {s : Sent} → Wrote old 0 text new r → Printed (take r new) s → Printed text s
+sent-there {s = s} w = subst (λ (l : List ℕ). Printed l s) (wrote-there zero-le w)
+
+pub cut-off : {text : List ℕ} {s : Sent} → s .whole ≡ false → Printed text s
+cut-off e = record { all = λ t. absurd (false≢true (sym e ∙ t)) }

@@ -27,18 +27,24 @@ pub struct Sent {
     pub bytes: usize,
 }
 
+// Writes a text. Whether it was all taken is the write's answer, of which no contract speaks.
+pub fn send(text: &[u8]) -> Sent
+    ensures { λ r. ⌜ Printed (now (text .entry)) r × (r .bytes ≤ length (now (text .entry))) ⌝ }
+{
+    Sent {
+        whole: io::write_all(STDOUT_FILENO, text),
+        bytes: text.len(),
+    }
+}
+
 // Writes `count` records from record `first` on.
 fn write_piece(table: &[u32], width: usize, first: usize, count: usize) -> Sent
     requires { ⌜ Piece (now table) width first count ⌝ }
-    ensures { λ r. ⌜ (r .bytes ≡ length (lines width count (drop (first * width) (now (table .entry))))) × (r .bytes ≤ 11 * (count * width)) ⌝ }
+    ensures { λ r. ⌜ Printed (lines width count (drop (first * width) (now (table .entry)))) r × (r .bytes ≤ 11 * (count * width)) ⌝ }
 {
     let mut out = io::large_buffer();
     let end = rows(table, width, first, count, &mut out);
-    let whole = io::write_all(STDOUT_FILENO, &out[..end]);
-    Sent {
-        whole: whole,
-        bytes: end,
-    }
+    send(&out[..end])
 }
 
 // Writes the first `count` records of `width` numbers of the table, each as a line, up to a write that fails.

@@ -1,11 +1,12 @@
 -- Each turn's bytes come to those of the records before it (lines-add); a piece has some of the records left and fits (Cuts). After a write
 -- that failed nothing is promised.
 -- Assumes nothing.
-use mathlib.Core.Path.{_≡_}
+use mathlib.Core.Path.{_≡_, refl}
 use Prim.Native.Nat.{ℕ, _+_, _*_, _-_, _≤_, _<_}
 use native.Mathlib.Nat.{mul-le-mul-right}
 use native.Mathlib.Omega.{arith}
 use borrow.Author.Needs.{needs}
+use borrow.Author.Tests.{not-false}
 use lib.ListN.{length}
 use Rattle.sheets.specs.Text.{lines}
 use Rattle.sheets.specs.Pieces.{piece}
@@ -46,7 +47,7 @@ add-total c =
 returns : tie.Need-returns Inv-loop μ-loop
 returns c =
     let start = c .before .before .before .before .before .before .before .before in
-    (cut-off, omega (arith, held (start .pre .some) (c .before .before .before .before .before .loop-test .taken) (c .before .before .before .before .fitting .ensures)))
+    (cut-off refl, omega (arith, held (start .pre .some) (c .before .before .before .before .before .loop-test .taken) (c .before .before .before .before .fitting .ensures)))
 
 add-done : tie.Need-add-done Inv-loop μ-loop
 add-done c =
@@ -64,7 +65,7 @@ loop-again c =
     let start = c .before .before .before .before .before .before .before .before in
     let turn = c .before .before .before .before .before .before in
     let cut = c .before .before .before .before in (
-      lines-add (start .args .width) (turn .loop .done) (cut .fitting .result) (start .args .table .now) (turn .loop .inv .0) (c .before .before .before .write-piece .ensures .0),
+      lines-add (start .args .width) (turn .loop .done) (cut .fitting .result) (start .args .table .now) (turn .loop .inv .0) (c .before .before .before .write-piece .ensures .0 .all (not-false _ (c .if1 .left))),
       omega arith,
       few (start .pre .some) (c .before .before .before .before .before .loop-test .taken) (cut .fitting .ensures),
     )
