@@ -5,11 +5,12 @@ use Prim.Native.Nat.{ℕ, _+_, _%_, _≤_, _<_}
 use mathlib.Core.Bool.{Bool, true, false, cond}
 use mathlib.Core.List.{List}
 use mathlib.Core.Path.{_≡_}
-use lib.Dec.{ltb}
+use lib.Dec.{ltb, eqb}
 use lib.IntN.{ℤ, pos, negsuc}
 use lib.ListN.{length, take, getD}
 use Rattle.io.specs.Counts.{clamped}
 use Rattle.print.specs.declared.input.Got.{Got}
+use Rattle.print.specs.declared.input.Input.{Input}
 
 -- how many bytes stand for n of them
 unfoldable pub standIn : ℕ → ℕ
@@ -29,6 +30,10 @@ isFailed (negsuc k) = true
 -- what a read answered, handed a buffer of `most` bytes
 abbrev pub gotOf : ℤ → ℕ → Got
 gotOf answer most = record { bytes = clamped answer most; failed = isFailed answer }
+
+-- what is known of the input after n bytes that stand for what was read before, and one more read: one that gives nothing is the last
+abbrev pub afterRead : ℕ → Got → Input
+afterRead n g = record { bytes = standIn (n + g .bytes); ended = eqb (g .bytes) 0; failed = g .failed }
 
 -- what one read leaves in a buffer, handed its bytes from `at` on, of which n came: those before `at` are as they were
 pub record ReadOn (old : List ℕ) (at : ℕ) (new : List ℕ) (n : ℕ) : Type 0 where

@@ -1,10 +1,10 @@
 // A floor file from standard input: as many of its bytes as decide what is printed of it. No contract can say what a read put: `stands-more`
 // has what follows of the input's bytes where they lie as they came.
 ghost use mathlib.Core.Path.{_≡_};
-ghost use Prim.Native.Nat.{_≤_};
+ghost use Prim.Native.Nat.{_+_, _≤_};
 ghost use lib.ListN.{length};
 ghost use Rattle.io.specs.Counts.{Counts};
-ghost use Rattle.print.specs.Input.{standIn, gotOf, ReadOn, Room};
+ghost use Rattle.print.specs.Input.{standIn, gotOf, afterRead, ReadOn, Room};
 use libc::STDIN_FILENO;
 
 // The largest floor has 3,568 bytes. Of an input of 3,584 bytes or more the refusal is 1, 2 or 3, and depends on its first record and on
@@ -43,10 +43,25 @@ fn read_on(bytes: &mut [u8], at: usize) -> Got
     counted(answer, &bytes[at..])
 }
 
-// How many of the first bytes stand for the input, and whether it could not be read to its end.
+// What was read: how many of the first bytes stand for it, whether it is all of the input, and whether a read failed.
 pub struct Input {
     pub bytes: usize,
+    pub ended: bool,
     pub failed: bool,
+}
+
+// After n bytes that stand for what was read before, and one more read.
+fn after(n: usize, got: Got) -> Input
+    requires { ⌜ n + got .bytes ≤ 65536 ⌝ }
+    ensures { λ r. ⌜ (r ≡ afterRead n got) × (r .bytes ≤ 3599) ⌝ }
+{
+    let more = got.bytes;
+    let bytes = stand_in(n + more);
+    Input {
+        bytes: bytes,
+        ended: more == 0,
+        failed: got.failed,
+    }
 }
 
 // Reads standard input to its end, each time behind the bytes that stand for what came before.
@@ -57,19 +72,16 @@ pub fn read_floor(bytes: &mut [u8]) -> Input
     let mut n: usize = 0;
     let mut turns = u64::MAX;
     while turns > 0 {
-        let got = read_on(bytes, n);
-        let more = got.bytes;
-        if more == 0 {
-            return Input {
-                bytes: n,
-                failed: got.failed,
-            };
+        let input = after(n, read_on(bytes, n));
+        if input.ended {
+            return input;
         }
-        n = stand_in(n + more);
+        n = input.bytes;
         turns -= 1;
     }
     Input {
         bytes: n,
+        ended: false,
         failed: true,
     }
 }

@@ -23,10 +23,9 @@ read-floor-spec =
     μ-loop
     (λ c. search needs)
     (λ c κs. search needs)
+    (λ c κs. omega arith)
     (λ c. search needs)
     (λ c. counts _ _ (omega arith))
-    (λ c. search needs)
-    (λ c κs. search needs)
     (λ c. search needs)
     (λ c. search needs)
     (λ c. search needs)
