@@ -126,8 +126,7 @@ fn closed_output_cannot_be_written() {
         .stdin(example())
         .output()
         .unwrap();
-    assert_eq!(output.status.code(), Some(1));
-    assert!(!output.stderr.is_empty());
+    assert_failed(&output, "print: standard output");
 }
 
 /// The reader is gone before the floor comes: the system ends the program, and that is said.
