@@ -1,0 +1,174 @@
+//! The mutants of a crate, tried one batch after another.
+
+use crate::calls::{batch, Calls};
+use crate::catalogue::{files_below, Catalogue, Mutant};
+use crate::kept::{sum, Kept};
+use crate::kit::Kit;
+use crate::outcome::{Outcome, Said, OUTCOMES};
+use crate::prover::Prover;
+use std::fs;
+use std::io;
+use std::path::Path;
+
+/// The mutants of a crate, one to a line.
+pub fn list(repository: &Path, name: &str) -> io::Result<Vec<String>> {
+    let all = Catalogue::read(&repository.join("crates"), name)?;
+    Ok(all.mutants.iter().map(|mutant| all.label(mutant)).collect())
+}
+
+/// Tries all that have no outcome yet; the answer is the crate's line of numbers.
+pub fn try_all(
+    kit: &Kit,
+    repository: &Path,
+    name: &str,
+    uses: &[String],
+) -> Result<String, String> {
+    let io = |trouble: io::Error| format!("{name}: {trouble}");
+    let all = Catalogue::read(&repository.join("crates"), name).map_err(io)?;
+    let results = repository.join("target/mutants");
+    fs::create_dir_all(&results).map_err(io)?;
+    let sum = crate_sum(&repository.join("crates").join(name)).map_err(io)?;
+    let kept = Kept::open(&results.join(format!("{name}.txt")), sum).map_err(io)?;
+    let mut run = Run {
+        calls: Calls::of(&all),
+        all: &all,
+        kept,
+        untold: vec![false; all.mutants.len()],
+    };
+    if !run.waiting().is_empty() {
+        let prover = Prover::start(kit, repository, name, uses)?;
+        run.until_done(&prover).map_err(io)?;
+    }
+    Ok(run.summary(name))
+}
+
+fn crate_sum(folder: &Path) -> io::Result<u64> {
+    let mut parts = Vec::new();
+    for part in ["src", "specs", "proofs"].map(|part| folder.join(part)) {
+        for path in if part.is_dir() {
+            files_below(&part)?
+        } else {
+            Vec::new()
+        } {
+            parts.push(
+                path.strip_prefix(folder)
+                    .unwrap_or(&path)
+                    .to_string_lossy()
+                    .into_owned()
+                    .into_bytes(),
+            );
+            parts.push(fs::read(&path)?);
+        }
+    }
+    Ok(sum(parts.iter().map(Vec::as_slice)))
+}
+
+struct Run<'a> {
+    all: &'a Catalogue,
+    calls: Calls,
+    kept: Kept,
+    // Those that a run with others did not tell.
+    untold: Vec<bool>,
+}
+
+impl Run<'_> {
+    fn waiting(&self) -> Vec<usize> {
+        let no_outcome = |&m: &usize| !self.kept.outcomes.contains_key(&self.label(m));
+        (0..self.all.mutants.len()).filter(no_outcome).collect()
+    }
+
+    fn label(&self, m: usize) -> String {
+        self.all.label(&self.all.mutants[m])
+    }
+
+    fn keep(&mut self, m: usize, outcome: Outcome) -> io::Result<()> {
+        println!("{}\t{}", outcome.word(), self.label(m));
+        self.kept.keep(&self.label(m), outcome)
+    }
+
+    fn until_done(&mut self, prover: &Prover) -> io::Result<()> {
+        loop {
+            let waiting = self.waiting();
+            let (lone, others): (Vec<usize>, Vec<usize>) =
+                waiting.iter().partition(|&&m| self.untold[m]);
+            let chosen = match lone.first() {
+                Some(&m) => vec![m],
+                None => batch(self.all, &self.calls, &others),
+            };
+            match chosen.as_slice() {
+                [] => return Ok(()),
+                [m] => self.try_one(prover, *m)?,
+                several => self.try_several(prover, several)?,
+            }
+        }
+    }
+
+    fn try_one(&mut self, prover: &Prover, m: usize) -> io::Result<()> {
+        let mutant = &self.all.mutants[m];
+        let said = prover.quickly(self.all, &[mutant])?;
+        let mut outcome = self.alone(&said, mutant);
+        if matches!(outcome, Outcome::Survived | Outcome::Untold) {
+            outcome = self.alone(&prover.wholly(self.all, mutant)?, mutant);
+        }
+        self.keep(m, outcome)
+    }
+
+    // By the first error of its own function; a constant's, by the first of all.
+    fn alone(&self, said: &Said, mutant: &Mutant) -> Outcome {
+        match self.told(said, mutant) {
+            Some(outcome) if outcome != Outcome::Survived => outcome,
+            _ => said.whole(),
+        }
+    }
+
+    fn try_several(&mut self, prover: &Prover, chosen: &[usize]) -> io::Result<()> {
+        let mutants: Vec<&Mutant> = chosen.iter().map(|&m| &self.all.mutants[m]).collect();
+        let said = prover.quickly(self.all, &mutants)?;
+        let told: Vec<Option<Outcome>> = mutants
+            .iter()
+            .map(|mutant| self.told(&said, mutant))
+            .collect();
+        let rejected = told.contains(&Some(Outcome::NoProgram));
+        for (&m, outcome) in chosen.iter().zip(told) {
+            match outcome {
+                Some(Outcome::Survived) | None => self.untold[m] = !rejected,
+                Some(outcome) => self.keep(m, outcome)?,
+            }
+        }
+        Ok(())
+    }
+
+    // Where the front end stopped a run, it names lines of the mutants that it rejects, and the others are tried again.
+    fn told(&self, said: &Said, mutant: &Mutant) -> Option<Outcome> {
+        let source = &self.all.sources[mutant.source];
+        let item = self.all.item(mutant);
+        let file = source.path.to_string_lossy();
+        let lines = source.file.lines_of(item);
+        if said.reached_the_prover() {
+            return said.of_function(&item.name, &file, lines);
+        }
+        let own = |(path, n): &(String, usize)| {
+            path.ends_with(&format!("/src/{file}")) && lines.0 <= *n && *n <= lines.1
+        };
+        said.rejected()
+            .iter()
+            .any(own)
+            .then_some(Outcome::NoProgram)
+    }
+
+    fn summary(&self, name: &str) -> String {
+        let labels = (0..self.all.mutants.len()).map(|m| self.label(m));
+        let found: Vec<Option<&Outcome>> =
+            labels.map(|label| self.kept.outcomes.get(&label)).collect();
+        let count = |outcome: Outcome| {
+            let number = found.iter().filter(|&&one| one == Some(&outcome)).count();
+            format!("{number} {}", outcome.word().to_lowercase())
+        };
+        let counts: Vec<String> = OUTCOMES.into_iter().map(count).collect();
+        format!(
+            "{name}: {} mutants: {}",
+            self.all.mutants.len(),
+            counts.join(", ")
+        )
+    }
+}
