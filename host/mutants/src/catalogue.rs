@@ -83,19 +83,12 @@ impl Catalogue {
         )
     }
 
-    /// A file with the changes that some mutants make in it, no two of which touch.
-    pub fn changed(&self, source: usize, mutants: &[&Mutant]) -> String {
-        let mut own: Vec<&Change> = mutants
-            .iter()
-            .filter(|m| m.source == source)
-            .map(|m| &m.change)
-            .collect();
-        own.sort_by_key(|change| std::cmp::Reverse(change.from));
-        let mut text = self.sources[source].file.source.clone();
-        for change in own {
-            text.replace_range(change.from..change.to, &change.new);
-        }
-        text
+    /// Every file, one of them with the change that a mutant makes in it.
+    pub fn changed(&self, mutant: &Mutant) -> Vec<String> {
+        let mut texts: Vec<String> = self.sources.iter().map(|s| s.file.source.clone()).collect();
+        let change = &mutant.change;
+        texts[mutant.source].replace_range(change.from..change.to, &change.new);
+        texts
     }
 }
 
@@ -189,10 +182,10 @@ mod tests {
     }
 
     #[test]
-    fn changes_of_two_functions_together() {
+    fn one_change_in_its_place() {
         let all = catalogue();
-        let text = all.changed(0, &[&all.mutants[0], &all.mutants[3]]);
-        assert_eq!(text, "fn f() {\n    a <= 1\n}\nfn g() {\n    b\n}\n");
+        let text = "fn f() {\n    a < 1\n}\nfn g() {\n    b\n}\n";
+        assert_eq!(all.changed(&all.mutants[3]), [text]);
     }
 
     #[test]

@@ -8,6 +8,8 @@ pub struct Item {
     pub name: String,
     pub constant: bool,
     pub public: bool,
+    /// The type that it is a method of.
+    pub of: Option<String>,
     /// Its first word, `fn` or `const`; then the words that may be changed, from one to the end of them.
     pub head: usize,
     pub first: usize,
@@ -37,7 +39,7 @@ impl File {
             items: Vec::new(),
             enums: Vec::new(),
         };
-        reader.walk(module, 0, tokens.len());
+        reader.walk(module, None, 0, tokens.len());
         let (items, enums) = (reader.items, reader.enums);
         Self {
             source,
@@ -95,7 +97,7 @@ impl<'a> Reader<'a> {
         closing(self.source, self.tokens, open)
     }
 
-    fn walk(&mut self, path: &str, from: usize, to: usize) {
+    fn walk(&mut self, path: &str, of: Option<&str>, from: usize, to: usize) {
         let mut at = from;
         let mut public = false;
         while at < to {
@@ -105,14 +107,15 @@ impl<'a> Reader<'a> {
                     at += 1;
                     continue;
                 }
-                "fn" => self.function(path, at, public),
+                "fn" => self.function(path, of, at, public),
                 "const" => self.constant(path, at, public),
                 "enum" => self.declared(at),
                 "struct" => self.close(self.find(at, "{")) + 1,
                 "impl" => {
                     let open = self.find(at, "{");
                     let close = self.close(open);
-                    self.walk(&format!("{path}::{}", self.text(open - 1)), open + 1, close);
+                    let of = self.text(open - 1);
+                    self.walk(&format!("{path}::{of}"), Some(of), open + 1, close);
                     close + 1
                 }
                 "use" => self.import(path, at),
@@ -129,7 +132,7 @@ impl<'a> Reader<'a> {
     }
 
     // The body is the first block that no word of a contract stands before.
-    fn function(&mut self, path: &str, at: usize, public: bool) -> usize {
+    fn function(&mut self, path: &str, of: Option<&str>, at: usize, public: bool) -> usize {
         let name = format!("{path}::{}", self.text(at + 1));
         let mut next = at + 2;
         while next < self.tokens.len() {
@@ -148,6 +151,7 @@ impl<'a> Reader<'a> {
             name,
             constant: false,
             public,
+            of: of.map(str::to_string),
             head: at,
             first: next,
             end,
@@ -169,6 +173,7 @@ impl<'a> Reader<'a> {
             name: format!("{path}::{}", self.text(at + 1)),
             constant: true,
             public,
+            of: None,
             head: at,
             first: at + 2,
             end,
@@ -185,6 +190,7 @@ impl<'a> Reader<'a> {
                 name: format!("{path}::{name}"),
                 constant: true,
                 public: false,
+                of: None,
                 head: at,
                 first: at + 1,
                 end,

@@ -1,7 +1,6 @@
 //! Mutants: small changes of a crate's code, each put to the prover, which must refuse those that change what the code does.
 
 pub mod callees;
-pub mod calls;
 pub mod catalogue;
 pub mod change;
 pub mod declared;
@@ -18,3 +17,4 @@ pub mod prover;
 pub mod run;
 pub mod signs;
 pub mod statements;
+pub mod twins;

@@ -101,29 +101,20 @@ impl Said {
         first_error(self.lines.iter()).map_or(Outcome::Misfit, |line| why(line))
     }
 
-    /// Of one function, in a run of several mutants: nothing where the output does not tell it alone. `lines` are its first and last in `file`.
-    pub fn of_function(&self, name: &str, file: &str, lines: (usize, usize)) -> Option<Outcome> {
+    /// Of one function: nothing where the output does not tell it.
+    pub fn of_function(&self, name: &str) -> Option<Outcome> {
         let state = self.functions.get(name)?;
         if state.starts_with("proved") {
             return Some(Outcome::Survived);
         }
-        if state.contains("it calls")
-            || !(state.starts_with("not proved") || state.starts_with("no proof"))
-        {
-            return None;
+        if state.starts_with("no proof") && state.contains("does not close") {
+            return Some(Outcome::Refused);
         }
-        let folder = format!(
-            "/proofs/{}/",
-            name.split("::").skip(1).collect::<Vec<_>>().join("/")
-        );
-        let own = self.lines.iter().filter(|line| {
-            let at = |(path, n): (String, usize)| {
-                path.contains(&folder)
-                    || (path.ends_with(&format!("/src/{file}")) && lines.0 <= n && n <= lines.1)
-            };
-            place(line.strip_prefix("note: ").unwrap_or(line)).is_some_and(at)
-        });
-        first_error(own).map(|line| why(line))
+        let path: Vec<&str> = name.split("::").skip(1).collect();
+        let folder = format!("/proofs/{}/", path.join("/"));
+        let own = |line: &&String| place(line).is_some_and(|(path, _)| path.contains(&folder));
+        let first = first_error(self.lines.iter().filter(own))?;
+        (state.starts_with("not proved") && !state.contains("it calls")).then(|| why(first))
     }
 }
 
@@ -175,7 +166,7 @@ logic=not-proved
 ";
 
     fn of(name: &str) -> Option<Outcome> {
-        Said::new(RUN).of_function(&format!("strips::strip::{name}"), "strip.rt", (12, 14))
+        Said::new(RUN).of_function(&format!("strips::strip::{name}"))
     }
 
     #[test]

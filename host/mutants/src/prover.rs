@@ -3,6 +3,7 @@
 use crate::catalogue::{files_below, Catalogue, Mutant};
 use crate::kit::Kit;
 use crate::outcome::Said;
+use crate::twins::{added, Twin};
 use std::ffi::OsString;
 use std::fs::{self, File};
 use std::io;
@@ -80,8 +81,41 @@ impl<'a> Prover<'a> {
         words
     }
 
-    /// Over links to what was proved, which the prover replaces and does not write into: only what the mutants touch is proved again.
-    pub fn quickly(&self, all: &Catalogue, mutants: &[&Mutant]) -> io::Result<Said> {
+    /// Many mutants, each as a twin of its function.
+    pub fn twins(&self, all: &Catalogue, mutants: &[&Mutant]) -> io::Result<(Said, Vec<Twin>)> {
+        let (texts, twins) = added(all, mutants);
+        self.write(all, &texts)?;
+        let proofs = self.room.join("proofs");
+        for twin in &twins {
+            let (own, original) = twin.folders();
+            if let Ok(text) = fs::read_to_string(proofs.join(original).join("Proof.antt")) {
+                fs::create_dir_all(proofs.join(&own))?;
+                fs::write(proofs.join(own).join("Proof.antt"), twin.proof(&text))?;
+            }
+        }
+        let said = self.quickly()?;
+        for folder in twins.iter().map(|twin| proofs.join(twin.folders().0)) {
+            if folder.exists() {
+                fs::remove_dir_all(folder)?;
+            }
+        }
+        Ok((said, twins))
+    }
+
+    /// One mutant in its place.
+    pub fn alone(&self, all: &Catalogue, mutant: &Mutant) -> io::Result<Said> {
+        self.write(all, &all.changed(mutant))?;
+        self.quickly()
+    }
+
+    /// The same, and the whole crate from nothing.
+    pub fn wholly(&self, all: &Catalogue, mutant: &Mutant) -> io::Result<Said> {
+        self.write(all, &all.changed(mutant))?;
+        self.run(&self.words(None))
+    }
+
+    // Over links to what was proved, which the prover replaces and does not write into: only what is new or changed is proved.
+    fn quickly(&self) -> io::Result<Said> {
         let tried = self.room.join("tried");
         if tried.exists() {
             fs::remove_dir_all(&tried)?;
@@ -89,22 +123,12 @@ impl<'a> Prover<'a> {
         copy(&self.room.join("proved"), &tried, |a, b| {
             fs::hard_link(a, b)
         })?;
-        self.write(all, mutants)?;
         self.run(&self.words(Some("tried")))
     }
 
-    /// The whole crate, from nothing.
-    pub fn wholly(&self, all: &Catalogue, mutant: &Mutant) -> io::Result<Said> {
-        self.write(all, &[mutant])?;
-        self.run(&self.words(None))
-    }
-
-    fn write(&self, all: &Catalogue, mutants: &[&Mutant]) -> io::Result<()> {
-        for (s, source) in all.sources.iter().enumerate() {
-            fs::write(
-                self.room.join("src").join(&source.path),
-                all.changed(s, mutants),
-            )?;
+    fn write(&self, all: &Catalogue, texts: &[String]) -> io::Result<()> {
+        for (source, text) in all.sources.iter().zip(texts) {
+            fs::write(self.room.join("src").join(&source.path), text)?;
         }
         Ok(())
     }

@@ -1,14 +1,17 @@
 //! The mutants of a crate, tried one batch after another.
 
-use crate::calls::{batch, Calls};
 use crate::catalogue::{files_below, Catalogue, Mutant};
 use crate::kept::{sum, Kept};
 use crate::kit::Kit;
 use crate::outcome::{Outcome, Said, OUTCOMES};
 use crate::prover::Prover;
+use crate::twins::Twin;
 use std::fs;
 use std::io;
 use std::path::Path;
+
+// How many twins one run tries.
+const TOGETHER: usize = 24;
 
 /// The mutants of a crate, one to a line.
 pub fn list(repository: &Path, name: &str) -> io::Result<Vec<String>> {
@@ -30,10 +33,9 @@ pub fn try_all(
     let sum = crate_sum(&repository.join("crates").join(name)).map_err(io)?;
     let kept = Kept::open(&results.join(format!("{name}.txt")), sum).map_err(io)?;
     let mut run = Run {
-        calls: Calls::of(&all),
         all: &all,
         kept,
-        untold: vec![false; all.mutants.len()],
+        lone: vec![false; all.mutants.len()],
     };
     if !run.waiting().is_empty() {
         let prover = Prover::start(kit, repository, name, uses)?;
@@ -65,10 +67,9 @@ fn crate_sum(folder: &Path) -> io::Result<u64> {
 
 struct Run<'a> {
     all: &'a Catalogue,
-    calls: Calls,
     kept: Kept,
-    // Those that a run with others did not tell.
-    untold: Vec<bool>,
+    // Those of which a twin told nothing, or survived.
+    lone: Vec<bool>,
 }
 
 impl Run<'_> {
@@ -86,74 +87,63 @@ impl Run<'_> {
         self.kept.keep(&self.label(m), outcome)
     }
 
+    // Constants have no twins, and what a twin did not tell is tried in its place; both come last.
     fn until_done(&mut self, prover: &Prover) -> io::Result<()> {
         loop {
             let waiting = self.waiting();
-            let (lone, others): (Vec<usize>, Vec<usize>) =
-                waiting.iter().partition(|&&m| self.untold[m]);
-            let chosen = match lone.first() {
-                Some(&m) => vec![m],
-                None => batch(self.all, &self.calls, &others),
-            };
-            match chosen.as_slice() {
-                [] => return Ok(()),
-                [m] => self.try_one(prover, *m)?,
-                several => self.try_several(prover, several)?,
+            let lone = |&&m: &&usize| self.lone[m] || self.all.item(&self.all.mutants[m]).constant;
+            let (lone, others): (Vec<usize>, Vec<usize>) = waiting.iter().partition(lone);
+            match (others.as_slice(), lone.as_slice()) {
+                ([], []) => return Ok(()),
+                ([], [m, ..]) => self.try_one(prover, *m)?,
+                (others, _) => self.try_twins(prover, &others[..others.len().min(TOGETHER)])?,
             }
         }
     }
 
-    fn try_one(&mut self, prover: &Prover, m: usize) -> io::Result<()> {
-        let mutant = &self.all.mutants[m];
-        let said = prover.quickly(self.all, &[mutant])?;
-        let mut outcome = self.alone(&said, mutant);
-        if matches!(outcome, Outcome::Survived | Outcome::Untold) {
-            outcome = self.alone(&prover.wholly(self.all, mutant)?, mutant);
-        }
-        self.keep(m, outcome)
-    }
-
-    // By the first error of its own function; a constant's, by the first of all.
-    fn alone(&self, said: &Said, mutant: &Mutant) -> Outcome {
-        match self.told(said, mutant) {
-            Some(outcome) if outcome != Outcome::Survived => outcome,
-            _ => said.whole(),
-        }
-    }
-
-    fn try_several(&mut self, prover: &Prover, chosen: &[usize]) -> io::Result<()> {
+    fn try_twins(&mut self, prover: &Prover, chosen: &[usize]) -> io::Result<()> {
         let mutants: Vec<&Mutant> = chosen.iter().map(|&m| &self.all.mutants[m]).collect();
-        let said = prover.quickly(self.all, &mutants)?;
-        let told: Vec<Option<Outcome>> = mutants
-            .iter()
-            .map(|mutant| self.told(&said, mutant))
-            .collect();
+        let (said, twins) = prover.twins(self.all, &mutants)?;
+        let told: Vec<_> = twins.iter().map(|twin| self.told(&said, twin)).collect();
         let rejected = told.contains(&Some(Outcome::NoProgram));
         for (&m, outcome) in chosen.iter().zip(told) {
             match outcome {
-                Some(Outcome::Survived) | None => self.untold[m] = !rejected,
+                Some(Outcome::Survived) | None => self.lone[m] = !rejected,
                 Some(outcome) => self.keep(m, outcome)?,
             }
         }
         Ok(())
     }
 
-    // Where the front end stopped a run, it names lines of the mutants that it rejects, and the others are tried again.
-    fn told(&self, said: &Said, mutant: &Mutant) -> Option<Outcome> {
-        let source = &self.all.sources[mutant.source];
-        let item = self.all.item(mutant);
-        let file = source.path.to_string_lossy();
-        let lines = source.file.lines_of(item);
+    // Where the front end stopped a run, it names lines of the twins that it rejects, and the others are tried again.
+    fn told(&self, said: &Said, twin: &Twin) -> Option<Outcome> {
         if said.reached_the_prover() {
-            return said.of_function(&item.name, &file, lines);
+            return said.of_function(&twin.name);
         }
-        let own = |(path, n): &(String, usize)| {
-            path.ends_with(&format!("/src/{file}")) && lines.0 <= *n && *n <= lines.1
-        };
-        said.rejected()
+        let file = format!("/src/{}", self.all.sources[twin.source].path.display());
+        let lines = twin.lines.0..=twin.lines.1;
+        let rejected = said.rejected();
+        let mut own = rejected
             .iter()
-            .any(own)
-            .then_some(Outcome::NoProgram)
+            .filter(|(path, n)| path.ends_with(&file) && lines.contains(n));
+        own.next().map(|_| Outcome::NoProgram)
+    }
+
+    fn try_one(&mut self, prover: &Prover, m: usize) -> io::Result<()> {
+        let mutant = &self.all.mutants[m];
+        let mut outcome = self.of_one(&prover.alone(self.all, mutant)?, mutant);
+        if matches!(outcome, Outcome::Survived | Outcome::Untold) {
+            outcome = self.of_one(&prover.wholly(self.all, mutant)?, mutant);
+        }
+        self.keep(m, outcome)
+    }
+
+    // By the first error of its own function; a constant's, by the first of all.
+    fn of_one(&self, said: &Said, mutant: &Mutant) -> Outcome {
+        match said.of_function(&self.all.item(mutant).name) {
+            Some(outcome) if outcome != Outcome::Survived => outcome,
+            _ => said.whole(),
+        }
     }
 
     fn summary(&self, name: &str) -> String {

@@ -1,4 +1,4 @@
-//! A statement left out: an early return, an assignment, a call for what it does.
+//! A statement left out: an early return, or an assignment. A proof names every call, so that leaving out one of these would show nothing.
 
 use crate::change::{Body, Change, Kind};
 
@@ -6,26 +6,24 @@ pub fn changes(body: &Body) -> Vec<Change> {
     let starts = body
         .places()
         .filter(|&at| matches!(body.text(at - 1), "{" | "}" | ";"));
-    starts
-        .filter_map(|at| ended(body, at))
-        .map(|(first, last)| body.rewritten(Kind::Statement, first, last, String::new()))
+    let ends = starts.filter_map(|at| Some((at, ended(body, at)?)));
+    ends.map(|(first, last)| body.rewritten(Kind::Statement, first, last, String::new()))
         .collect()
 }
 
-// A statement that binds no name, from its first word to its semicolon; a block that ends without one is none.
-fn ended(body: &Body, first: usize) -> Option<(usize, usize)> {
-    if matches!(
-        body.text(first),
-        "let" | "if" | "while" | "match" | "else" | "}" | ";"
-    ) {
-        return None;
-    }
+// The semicolon of a return or an assignment that begins here.
+fn ended(body: &Body, first: usize) -> Option<usize> {
+    let mut fits = match body.text(first) {
+        "let" => return None,
+        word => word == "return",
+    };
     let mut at = first;
     while at < body.item.end {
         match body.text(at) {
-            "(" | "[" | "{" => at = body.close(at),
-            "}" | ")" | "]" | "," | "=>" => return None,
-            ";" => return Some((first, at)),
+            "(" | "[" => at = body.close(at),
+            "=" | "+=" | "-=" => fits = true,
+            "{" | "}" | "," | "=>" => return None,
+            ";" => return fits.then_some(at),
             _ => {}
         }
         at += 1;
@@ -39,15 +37,20 @@ mod tests {
     use crate::change::of;
 
     #[test]
-    fn a_return_and_a_call() {
-        let found = of("fn f() { if a { return 8; } g(b); 0 }", &[], changes);
+    fn a_return_and_an_assignment() {
+        let found = of("fn f() { if a { return 8; } b[i] += 1; 0 }", &[], changes);
         assert_eq!(
             found,
             [
-                "fn f() { if a {  } g(b); 0 }",
+                "fn f() { if a {  } b[i] += 1; 0 }",
                 "fn f() { if a { return 8; }  0 }"
             ]
         );
+    }
+
+    #[test]
+    fn a_call_stays() {
+        assert!(of("fn f() { g(b); 0 }", &[], changes).is_empty());
     }
 
     #[test]
