@@ -1,8 +1,9 @@
 //! A crate's files, what they declare, and all its mutants.
 
-use crate::change::{changes, Body, Change};
+use crate::change::{changes, Body, Change, Kind};
 use crate::declared::Declared;
 use crate::items::{File, Item};
+use std::collections::BTreeSet;
 use std::fs;
 use std::io;
 use std::path::{Path, PathBuf};
@@ -66,6 +67,31 @@ impl Catalogue {
 
     pub fn item(&self, mutant: &Mutant) -> &Item {
         &self.sources[mutant.source].file.items[mutant.item]
+    }
+
+    /// For each function of some mutants, one in which nothing is changed.
+    pub fn controls(&self, mutants: &[usize]) -> Vec<Mutant> {
+        let items = mutants
+            .iter()
+            .map(|&m| &self.mutants[m])
+            .map(|m| (m.source, m.item));
+        let items: BTreeSet<(usize, usize)> = items.collect();
+        let control = |(source, item): (usize, usize)| {
+            let Source { file, .. } = &self.sources[source];
+            let at = file.tokens[file.items[item].first].from;
+            let change = Change {
+                kind: Kind::Nothing,
+                from: at,
+                to: at,
+                new: String::new(),
+            };
+            Mutant {
+                source,
+                item,
+                change,
+            }
+        };
+        items.into_iter().map(control).collect()
     }
 
     /// Where a mutant is and what it changes, on one line.
@@ -186,6 +212,17 @@ mod tests {
         let all = catalogue();
         let text = "fn f() {\n    a < 1\n}\nfn g() {\n    b\n}\n";
         assert_eq!(all.changed(&all.mutants[3]), [text]);
+    }
+
+    #[test]
+    fn a_control_changes_nothing() {
+        let all = catalogue();
+        let controls = all.controls(&[0, 1, 3]);
+        assert_eq!(controls.len(), 2);
+        assert_eq!(
+            all.changed(&controls[1]),
+            [all.sources[0].file.source.clone()]
+        );
     }
 
     #[test]

@@ -6,6 +6,8 @@ use crate::lexer::{closing, Class};
 
 #[derive(Clone, Copy, Debug, PartialEq, Eq)]
 pub enum Kind {
+    /// None: a control, which must be proved.
+    Nothing,
     Comparison,
     Operator,
     Number,
@@ -23,6 +25,7 @@ pub enum Kind {
 impl Kind {
     pub fn word(self) -> &'static str {
         match self {
+            Kind::Nothing => "nothing",
             Kind::Comparison => "comparison",
             Kind::Operator => "operator",
             Kind::Number => "number",

@@ -39,6 +39,7 @@ pub fn try_all(
     };
     if !run.waiting().is_empty() {
         let prover = Prover::start(kit, repository, name, uses)?;
+        run.control(&prover).map_err(io)?;
         run.until_done(&prover).map_err(io)?;
     }
     Ok(run.summary(name))
@@ -99,6 +100,26 @@ impl Run<'_> {
                 (others, _) => self.try_twins(prover, &others[..others.len().min(TOGETHER)])?,
             }
         }
+    }
+
+    // A twin in which nothing is changed must be proved; where it is not, the mutants of that function are tried in their place.
+    fn control(&mut self, prover: &Prover) -> io::Result<()> {
+        let waiting = self.waiting();
+        let constant = |m: usize| self.all.item(&self.all.mutants[m]).constant;
+        let functions: Vec<usize> = waiting.iter().copied().filter(|&m| !constant(m)).collect();
+        let controls = self.all.controls(&functions);
+        let (said, twins) = prover.twins(self.all, &controls.iter().collect::<Vec<_>>())?;
+        for (control, twin) in controls.iter().zip(twins) {
+            if self.told(&said, &twin) != Some(Outcome::Survived) {
+                println!("in its place: {}", self.all.item(control).name);
+                for &m in &functions {
+                    let mutant = &self.all.mutants[m];
+                    let same = (mutant.source, mutant.item) == (control.source, control.item);
+                    self.lone[m] = self.lone[m] || same;
+                }
+            }
+        }
+        Ok(())
     }
 
     fn try_twins(&mut self, prover: &Prover, chosen: &[usize]) -> io::Result<()> {
