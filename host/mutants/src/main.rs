@@ -1,16 +1,18 @@
 use mutants::kit::{listed, Kit};
 use mutants::run::{list, try_all};
 use std::env;
-use std::path::{Path, PathBuf};
+use std::path::Path;
 use std::process::ExitCode;
 
 // mutants REPOSITORY [--list] CRATE..
 fn main() -> ExitCode {
-    let mut words: Vec<String> = env::args().skip(1).collect();
-    let repository = PathBuf::from(words.remove(0));
-    let done = match words.first().map(String::as_str) {
-        Some("--list") => list_crates(&repository, &words[1..]),
-        _ => try_crates(&repository, &words),
+    let words: Vec<String> = env::args().skip(1).collect();
+    let done = match words.as_slice() {
+        [] => Err("the repository is not named".to_string()),
+        [repository, list, names @ ..] if list == "--list" => {
+            list_crates(Path::new(repository), names)
+        }
+        [repository, names @ ..] => try_crates(Path::new(repository), names),
     };
     match done {
         Ok(()) => ExitCode::SUCCESS,

@@ -11,7 +11,7 @@ use std::io;
 use std::path::Path;
 
 // How many twins one run tries.
-const TOGETHER: usize = 24;
+const TOGETHER: usize = 60;
 
 /// The mutants of a crate, one to a line.
 pub fn list(repository: &Path, name: &str) -> io::Result<Vec<String>> {
