@@ -8,7 +8,7 @@ use Prim.Native.Nat.{ℕ, _≤_, _<_, zero-le}
 use mathlib.Core.Bool.{Bool, true, false, cond, _&&_, false≢true}
 use mathlib.Core.List.{List}
 use mathlib.Core.Logic.{inl}
-use mathlib.Core.Path.{_≡_, refl, sym, subst}
+use mathlib.Core.Path.{_≡_, refl, subst}
 use native.Mathlib.Decide.{decLt}
 use native.Mathlib.Omega.{arith}
 use lib.Dec.{ltb}
@@ -20,15 +20,14 @@ use Rattle.plan.specs.Plan.{bays, grade}
 use Rattle.layouts.specs.declared.Layout.{Layout}
 use Rattle.layouts.specs.declared.Layout.the-variants.{Everywhere, OuterOnly}
 use Rattle.layouts.specs.Layouts.{layoutOf}
-use Rattle.layouts.specs.Meaning.{EachLine, Beamed}
 use Rattle.floor.specs.Refusal.{refusal}
 use Rattle.floor.proofs.Fair.{fair}
 use Rattle.thickness.specs.declared.PanelPlace.{PanelPlace}
 use Rattle.thickness.specs.declared.PanelPlace.the-variants.{Bare, Edged, Inner}
 use Rattle.thickness.specs.LeastThickness.{byStiffness, Enough, Tabled, divisor}
 use Rattle.thickness.proofs.Thinnest.{least-thickness, enough-on}
-use Rattle.lines.specs.Lines.{edgePlace, outerPanel, panelPlace, panelAlpha, panelView, panelThickness, longerClear}
-use Rattle.lines.specs.Meaning.{OuterPanel, EdgeBeams, PlaceIs, PanelEnough}
+use Rattle.lines.specs.Lines.{edgePlace, panelPlace, panelAlpha, panelView, panelThickness, longerClear}
+use Rattle.lines.specs.Meaning.{OuterPanel, PlaceIs, PanelEnough}
 use Rattle.lines.proofs.Meaning.{says-outer-panel, says-everywhere}
 use Rattle.lines.proofs.Floors.{panel-in}
 

@@ -1,7 +1,7 @@
 -- A piece has some of the records that are left, no more than that, and fits; what is sent of a buffer is the text written there; of what was
 -- not taken whole nothing is promised.
 -- Assumes nothing.
-use Prim.Native.Nat.{ℕ, _+_, _*_, _/_, _≤_, _<_, zero-le}
+use Prim.Native.Nat.{ℕ, _*_, _/_, _≤_, zero-le}
 use mathlib.Core.Bool.{false, false≢true}
 use mathlib.Core.List.{List}
 use mathlib.Core.Path.{_≡_, sym, subst, _∙_}
