@@ -4,9 +4,9 @@
  * needs memcpy and memset, and nothing else.
  *
  * Every call takes any bytes, any lengths and any numbers, and always returns: nothing has to be looked at first. A length counts
- * what its pointer points to: bytes of a floor or a change, numbers of a table. A pointer may be anything, NULL too, where its
- * length is 0. A table whose length is not 0 must be aligned for uint32_t; a floor and a change may start at any address. The
- * buffers of one call must not overlap, and nobody else may write to them during it.
+ * what its pointer points to: bytes of a floor or a change, numbers of a table or of governing moments. A pointer may be anything,
+ * NULL too, where its length is 0. A table and governing moments whose length is not 0 must be aligned for uint32_t; a floor and a
+ * change may start at any address. The buffers of one call must not overlap, and nobody else may write to them during it.
  * Nothing is kept between calls, nothing is allocated, and a call touches no memory but its stack and the buffers lent to it.
  */
 #ifndef GANDHRUMIL_H
@@ -16,7 +16,7 @@
 #include <stdint.h>
 
 /* Rises by 1 with each change of what is declared here and each change of an answer. docs/CHANGES.md says what a caller must do. */
-#define GANDHRUMIL_VERSION 1
+#define GANDHRUMIL_VERSION 2
 
 /* A call uses less than GANDHRUMIL_STACK bytes of stack. Measured on floors of 12 by 12 bays, clear and not, the deepest uses less
  * than 6 KiB, on aarch64 and, under an emulator, on x86-64; the rest is margin. */
@@ -39,26 +39,35 @@ extern "C" {
  *   10  there is no such panel
  *   11  a value of a steel query is out of range
  *   12  no steel area fits
+ *   13  governing_len is below 5 * ((ny + 1) * (nx + 1) + (nx + 1) * (ny + 1)); tried right after 8
  */
 typedef struct {
     uint32_t refusal;
     uint32_t value;
 } gandhrumil_answer;
 
-/* Opens a floor. Tries 1 to 8. value is the verdict, 255 where refused: the sum of 1 (fewer than three bays one way), 2 (a panel longer
+/* Opens a floor. Tries 1 to 8, then 13. value is the verdict, 255 where refused: the sum of 1 (fewer than three bays one way), 2 (a panel longer
  * than twice its width), 4 (neighbouring spans differ by more than a third), 8 (a column off its line by more than a tenth of a span),
  * 16 (live load above twice dead load), 32 (stiffness of the two directions apart by more than five times), 64 (slab too thin).
  * Where it is not refused the table's numbers are written, sixteen for each span: Mo in N.m, then low end, between, high end in N.cm, each
  * as total, column strip, middle strip, beam, slab; x frames first (line j, span i is record j * nx + i), then y frames (record
- * (ny + 1) * nx + i * ny + j). They are all 0 unless the verdict is 0. Numbers past them are left alone; a refusal writes nothing. */
-gandhrumil_answer gandhrumil_open(const uint8_t *floor, size_t floor_len, uint32_t *table, size_t table_len);
+ * (ny + 1) * nx + i * ny + j).
+ * With them go the governing moments, five numbers for each support of each frame: total, column strip, middle strip, beam, slab, all from
+ * the face with the larger total. The faces of support s are the high end of span s - 1 and the low end of span s; on a tie the first of
+ * them counts, and the first and the last support have one face. x frames come first (line j, support s is entry j * (nx + 1) + s), then y
+ * frames (line i, support s is entry (ny + 1) * (nx + 1) + i * (ny + 1) + s).
+ * All of these numbers are 0 unless the verdict is 0. Numbers past them are left alone; a refusal writes nothing. */
+gandhrumil_answer gandhrumil_open(const uint8_t *floor, size_t floor_len, uint32_t *table, size_t table_len,
+                                  uint32_t *governing, size_t governing_len);
 
-/* Changes one record of a floor. Tries 1 to 7 on the floor, 9, 5 to 7 on the changed floor, then 8. value is the verdict of the floor that the
- * change makes, 255 where refused. Where it is taken the 16 bytes are stored in their place and the table is kept: where the verdict is 0
- * before and after, just the records that the change bears on are written; otherwise the whole table. A refusal writes nothing.
- * A table that gandhrumil_open filled stays, after any number of changes, what gandhrumil_open would make of the floor as it then is. */
+/* Changes one record of a floor. Tries 1 to 7 on the floor, 9, 5 to 7 on the changed floor, 8, then 13. value is the verdict of the floor that
+ * the change makes, 255 where refused. Where it is taken the 16 bytes are stored in their place and the moments are kept: where the verdict is
+ * 0 before and after, just the records of the table that the change bears on are written, and then the supports at their ends, from the table
+ * as it then stands; otherwise the whole table and every support. A refusal writes nothing.
+ * A table and governing moments that gandhrumil_open filled stay, after any number of changes, what gandhrumil_open would make of the floor as
+ * it then is. */
 gandhrumil_answer gandhrumil_change(uint8_t *floor, size_t floor_len, uint32_t *table, size_t table_len,
-                                    const uint8_t *change, size_t change_len);
+                                    uint32_t *governing, size_t governing_len, const uint8_t *change, size_t change_len);
 
 /* The least thickness in mm of the panel of x bay x and y bay y, each counted from 0. Tries 1 to 7, then 10; 0 where refused. */
 gandhrumil_answer gandhrumil_panel(const uint8_t *floor, size_t floor_len, uint64_t x, uint64_t y);

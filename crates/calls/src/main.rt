@@ -1,7 +1,8 @@
 // Makes the calls that standard input asks for, as C makes them (crate gandhrumil), and prints what each answers.
 //
 // The input is batches one after another. A batch is, in little-endian words of 4 bytes: the floor's length, then its bytes; how many numbers
-// the table has, then these; how many calls there are, then each call, which is a word and what the call asks for:
+// the table has, then these; how many the governing slice has, then these; how many calls there are, then each call, which is a word and what
+// the call asks for:
 //
 //     1  open
 //     2  change   its length, then its bytes
@@ -9,12 +10,13 @@
 //     4  steel    m, b, t, d, fc, fy: two words each, the low one first
 //     5  show
 //
-// `show` prints the floor's bytes, then all the numbers of the table, past its records too, each on a line of its own; the others print
-// refusal and value on a line. The program stops at a batch without calls, which is what the end of the input reads as, at a length that its
+// `show` prints the floor's bytes, then all the numbers of the table and of the governing slice, past their records too, each on a line of its
+// own; the others print refusal and value on a line. The program stops at a batch without calls, which is what the end of the input reads as, at a length that its
 // buffers have no room for, and at a word that is no call.
 ghost use Prim.Native.Nat.{_*_, _≤_};
 ghost use lib.ListN.{length};
 ghost use Rattle.tables.specs.Width.{recordWidth};
+ghost use Rattle.calls.specs.Shown.{Shown};
 use answers::Answer;
 use gandhrumil::gandhrumil_change;
 use gandhrumil::gandhrumil_open;
@@ -25,12 +27,16 @@ use libc::STDOUT_FILENO;
 use plan::fields::u32_at;
 use sheets::pair;
 use sheets::pieces::write_rows;
+use supports::SUPPORT;
 use tables::write::WIDTH;
 
 const LONGEST_FLOOR: usize = 4096;
 
 // Eight records more than the largest floor has.
 const LONGEST_TABLE: usize = 320 * WIDTH;
+
+// Eight supports more than the largest floor has.
+const LONGEST_GOVERNING: usize = 346 * SUPPORT;
 
 const LONGEST_CHANGE: usize = 64;
 
@@ -47,10 +53,10 @@ fn long() -> u64 {
     high * 4294967296 + low
 }
 
-fn read_table(table: &mut [u32]) {
+fn read_numbers(slice: &mut [u32]) {
     let mut i: usize = 0;
-    while i < table.len() {
-        table[i] = word();
+    while i < slice.len() {
+        slice[i] = word();
         i += 1;
     }
 }
@@ -66,8 +72,8 @@ fn show_byte(byte: u8) {
     io::write_all(STDOUT_FILENO, b"\n");
 }
 
-fn show(floor: &[u8], table: &[u32])
-    requires { ⌜ length (now table) ≤ 320 * recordWidth ⌝ }
+fn show(floor: &[u8], table: &[u32], governing: &[u32])
+    requires { ⌜ Shown (now table) (now governing) ⌝ }
 {
     let mut i: usize = 0;
     while i < floor.len() {
@@ -75,47 +81,48 @@ fn show(floor: &[u8], table: &[u32])
         i += 1;
     }
     write_rows(table, 1, table.len());
+    write_rows(governing, 1, governing.len());
 }
 
-fn read_and_change(floor: &mut [u8], table: &mut [u32], change: &mut [u8]) {
+fn read_and_change(floor: &mut [u8], table: &mut [u32], governing: &mut [u32], change: &mut [u8]) {
     io::read_full(STDIN_FILENO, change);
-    show_answer(gandhrumil_change(floor, table, change));
+    show_answer(gandhrumil_change(floor, table, governing, change));
 }
 
-fn change(floor: &mut [u8], table: &mut [u32]) -> bool {
+fn change(floor: &mut [u8], table: &mut [u32], governing: &mut [u32]) -> bool {
     let mut bytes = [0u8; LONGEST_CHANGE];
     let n = word() as usize;
     if n > LONGEST_CHANGE {
         return false;
     }
-    read_and_change(floor, table, &mut bytes[..n]);
+    read_and_change(floor, table, governing, &mut bytes[..n]);
     true
 }
 
 // Makes the next call, and answers whether there was one.
-fn call(floor: &mut [u8], table: &mut [u32]) -> bool
-    requires { ⌜ length (now table) ≤ 320 * recordWidth ⌝ }
+fn call(floor: &mut [u8], table: &mut [u32], governing: &mut [u32]) -> bool
+    requires { ⌜ Shown (now table) (now governing) ⌝ }
 {
     match word() {
-        1 => show_answer(gandhrumil_open(floor, table)),
-        2 => return change(floor, table),
+        1 => show_answer(gandhrumil_open(floor, table, governing)),
+        2 => return change(floor, table, governing),
         3 => show_answer(gandhrumil_panel(floor, long(), long())),
         4 => show_answer(gandhrumil_steel(long(), long(), long(), long(), long(), long())),
-        5 => show(floor, table),
+        5 => show(floor, table, governing),
         _ => return false,
     }
     true
 }
 
-fn calls(floor: &mut [u8], table: &mut [u32]) -> bool
-    requires { ⌜ length (now table) ≤ 320 * recordWidth ⌝ }
+fn calls(floor: &mut [u8], table: &mut [u32], governing: &mut [u32]) -> bool
+    requires { ⌜ Shown (now table) (now governing) ⌝ }
 {
     let mut left = word();
     if left == 0 {
         return false;
     }
     while left > 0 {
-        if !call(floor, table) {
+        if !call(floor, table, governing) {
             return false;
         }
         left -= 1;
@@ -123,11 +130,23 @@ fn calls(floor: &mut [u8], table: &mut [u32]) -> bool
     true
 }
 
+fn with_governing(floor: &mut [u8], table: &mut [u32], governing: &mut [u32]) -> bool
+    requires { ⌜ Shown (now table) (now governing) ⌝ }
+{
+    read_numbers(governing);
+    calls(floor, table, governing)
+}
+
 fn with_table(floor: &mut [u8], table: &mut [u32]) -> bool
     requires { ⌜ length (now table) ≤ 320 * recordWidth ⌝ }
 {
-    read_table(table);
-    calls(floor, table)
+    let mut governing = [0u32; LONGEST_GOVERNING];
+    read_numbers(table);
+    let n = word() as usize;
+    if n > LONGEST_GOVERNING {
+        return false;
+    }
+    with_governing(floor, table, &mut governing[..n])
 }
 
 fn with_floor(floor: &mut [u8]) -> bool {

@@ -1,5 +1,5 @@
 // A change to the floor (01, "Refusal numbers"): one record, judged in a copy, then stored.
-// Judging and storing stand apart, because refusal 8 is tried between them by the layer that has the table.
+// Judging and storing stand apart, because the room of what is lent, 8 and 13, is tried between them by the layer above.
 ghost use mathlib.Core.Path.{_≡_};
 ghost use Prim.Native.Nat.{_≤_, _+_};
 ghost use lib.ListN.{length};

@@ -23,6 +23,8 @@ const LONGEST_FLOOR: usize = 3568;
 
 const LARGEST_TABLE: usize = 4992;
 
+const LARGEST_GOVERNING: usize = 1690;
+
 // What is asked of an opened floor; 0 past its table.
 fn told(answer: Answer, table: &[u32], asked: usize) -> u32 {
     if asked == 0 {
@@ -54,8 +56,9 @@ fn ask_all(answer: Answer, table: &[u32], questions: u32) {
 
 fn with_floor(floor: &mut [u8], questions: u32) {
     let mut table = [0u32; LARGEST_TABLE];
+    let mut governing = [0u32; LARGEST_GOVERNING];
     io::read_full(STDIN_FILENO, floor);
-    let answer = moments::open(floor, &mut table);
+    let answer = moments::open(floor, &mut table, &mut governing);
     ask_all(answer, &table, questions);
 }
 

@@ -1,15 +1,13 @@
 -- The lines of a frame and the frames of both directions: each line's named records are a stretch of it (crate tables), and stretches that
 -- follow one another are one.
 -- Assumes nothing.
-use Prim.Native.Nat.{ℕ, _+_, _-_, _*_, _≤_}
+use Prim.Native.Nat.{ℕ, _+_, _-_, _≤_}
 use mathlib.Core.List.{List}
 use mathlib.Core.Path.{_≡_, sym, ap, _∙_}
-use native.Mathlib.Nat.{suc-mul, zero-add, zero-mul}
-use native.Mathlib.Numerals.{add-one}
 use native.Mathlib.Omega.{arith}
 use lib.ListN.{length}
 use Rattle.numbers.specs.Records.{writtenFrom, every}
-use Rattle.numbers.proofs.Written.{from-none, from-run}
+use Rattle.numbers.proofs.Written.{from-none}
 use Rattle.records.proofs.Places.{count-most}
 use Rattle.plan.specs.declared.ways.Way.{Way}
 use Rattle.plan.specs.declared.ways.Way.the-variants.{X, Y}
@@ -22,13 +20,12 @@ use Rattle.lines.specs.Rows.{rowOf}
 use Rattle.spans.proofs.AtHand.{along-of}
 use Rattle.tables.specs.declared.named.Spans.{Spans}
 use Rattle.tables.specs.Width.{recordWidth}
-use Rattle.tables.specs.Places.{firstOf, lineFirst}
+use Rattle.tables.specs.Places.{lineFirst}
 use Rattle.tables.specs.Named.{namedSpans, namedAt}
 use Rattle.tables.specs.Asked.{Naming}
-use Rattle.tables.proofs.Numbered.{lines-sum-y}
 use Rattle.tables.proofs.Meaning.{to-most, from-most, line-written}
 use Rattle.frames.specs.Asked.{InTable, InFrames, AtLine, AtSpans}
-use Rattle.frames.specs.Table.{recordAt, namedWritten}
+use Rattle.frames.specs.Table.{recordAt}
 use Rattle.frames.proofs.Spans.{standing-in}
 
 -- ---- one line
@@ -83,27 +80,8 @@ module _ (f t : List ℕ) (slab : Slab) (a : List ℕ) (kind index : ℕ) (d : W
   pub last-is : {n : ℕ} {over : Way} → over ≡ across d → n ≡ pick over (slab .bays .x) (slab .bays .y) → n ≡ lastLine f d
   last-is q e = e ∙ rw q (along-of f (h .standing .shared) (across d))
 
-  pub no-line : t ≡ writtenFrom recordWidth (namedAt f kind index) (recordAt f) (firstOf f d) (0 * bays f d) t
-  no-line = rw (zero-mul (bays f d)) (sym (from-none recordWidth (namedAt f kind index) (recordAt f) (firstOf f d) t))
-
-  pub next-line : (l : ℕ) {u : List ℕ} → u ≡ writtenFrom recordWidth (namedAt f kind index) (recordAt f) (firstOf f d) (l * bays f d) t
-      → writtenFrom recordWidth (namedAt f kind index) (recordAt f) (lineFirst f d l) (bays f d) u
-      ≡ writtenFrom recordWidth (namedAt f kind index) (recordAt f) (firstOf f d) ((l + 1) * bays f d) t
-  next-line l e =
-      let n : (l + 1) * bays f d ≡ l * bays f d + bays f d = rw add-one (suc-mul l (bays f d)) in
-      rw (e, n) (from-run recordWidth (namedAt f kind index) (recordAt f) (firstOf f d) (l * bays f d) (bays f d) t)
-
 -- ---- both directions
 
 pub in-frames : (f t : List ℕ) (slab : Slab) (a : List (List ℕ)) {kind index : ℕ} → InTable f t slab a kind index
     → (d : Way) (u : List ℕ) → length u ≡ length t → InFrames f u slab (rowOf a d) kind index d
 in-frames f t slab a h d u e = record { standing = standing-in f t slab (h .standing) u e; alphas = h .alphas d; listed = h .listed }
-
-pub both-ways : (f : List ℕ) (kind index : ℕ) (t : List ℕ) {u v : List ℕ}
-    → u ≡ writtenFrom recordWidth (namedAt f kind index) (recordAt f) (firstOf f X) ((lastLine f X + 1) * bays f X) t
-    → v ≡ writtenFrom recordWidth (namedAt f kind index) (recordAt f) (firstOf f Y) ((lastLine f Y + 1) * bays f Y) u
-    → v ≡ namedWritten f kind index t
-unfolding namedWritten
-both-ways f kind index t e q =
-    q ∙ rw e (rw (zero-add (firstOf f Y)) at (from-run recordWidth (namedAt f kind index) (recordAt f) 0 (firstOf f Y) ((lastLine f Y + 1) * bays f Y) t))
-    ∙ ap (λ n. writtenFrom recordWidth (namedAt f kind index) (recordAt f) 0 n t) (lines-sum-y f)

@@ -2,11 +2,10 @@
 -- Assumes nothing.
 use Prim.Native.Nat.{zero-le, ℕ, _+_, _-_, _≤_, _<_}
 use mathlib.Core.List.{List}
-use mathlib.Core.Path.{_≡_, ap, _∙_}
+use mathlib.Core.Path.{_≡_, refl, ap, _∙_}
 use native.Mathlib.Omega.{arith}
 use lib.ListN.{length, getD}
 use Rattle.numbers.specs.Records.{put, writtenFrom, every}
-use Rattle.numbers.proofs.Written.{from-more}
 use Rattle.plan.specs.declared.ways.Way.{Way}
 use Rattle.plan.specs.Ways.{across}
 use Rattle.plan.specs.Plan.{bays, span}
@@ -27,6 +26,7 @@ use Rattle.tables.specs.declared.named.Spans.{Spans}
 use Rattle.tables.specs.Width.{recordWidth}
 use Rattle.tables.specs.Places.{Place, Inside, placeOf, lineFirstIn, lineFirst}
 use Rattle.tables.proofs.Numbered.{bayed, line-starts, number-place, number-below, place-inside}
+use Rattle.tables.proofs.Runs.{next-one}
 use Rattle.tables.specs.Asked.{OnLine}
 use Rattle.frames.specs.Asked.{Standing, AtSpans, AtSpan}
 use Rattle.frames.specs.Table.{viewAt, recordAt}
@@ -114,7 +114,4 @@ module _ (f t : List ℕ) (slab : Slab) (a : List ℕ) (d : Way) (l : ℕ) (span
   -- one record more of a line
   pub next-span : {first low s : ℕ} (u : List ℕ) → first ≡ lineFirst f d l → low ≤ s → u ≡ writtenFrom recordWidth every (recordAt f) (lineFirst f d l + low) (s - low) t
       → put recordWidth (first + s) (recordAt f (first + s)) u ≡ writtenFrom recordWidth every (recordAt f) (lineFirst f d l + low) (s + 1 - low) t
-  next-span {first} {low} {s} u at order e =
-      let n : s + 1 - low ≡ s - low + 1 = omega arith in
-      let k : lineFirst f d l + low + (s - low) ≡ first + s = omega arith in
-      rw (n, from-more recordWidth every (recordAt f) (lineFirst f d l + low) (s - low) t, k, e)
+  next-span {low = low} {s = s} u at order e = rw at (next-one recordWidth (recordAt f) (lineFirst f d l) low s t order e refl)

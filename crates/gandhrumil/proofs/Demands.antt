@@ -1,9 +1,12 @@
 -- The three demands, each from the laws of the layer that keeps it.
 -- Assumes nothing.
-use Prim.Native.Nat.{ℕ}
+use Prim.Native.Nat.{ℕ, zero, suc, _+_, _*_, _<_}
 use mathlib.Core.List.{List}
 use mathlib.Core.Logic.{_↔_}
-use mathlib.Core.Path.{_≡_, sym, subst, _∙_}
+use mathlib.Core.Path.{_≡_, refl, sym, ap, subst, _∙_}
+use native.Mathlib.Omega.{arith}
+use lib.ListN.{getD}
+use lib.Seq.{ext-getD}
 use Rattle.floor.specs.Refusal.{refusal, Given}
 use Rattle.floor.proofs.Meaning.{given}
 use Rattle.changes.specs.Change.{changeKind, changeIndex, changed}
@@ -11,22 +14,43 @@ use Rattle.answers.specs.declared.Answer.{Answer}
 use Rattle.limits.specs.Meaning.{Broken, Clear}
 use Rattle.limits.proofs.Meaning.{broken, broken-one}
 use Rattle.verdict.proofs.Answers.{panel-answer}
+use Rattle.plan.specs.Plan.{baysOf}
+use Rattle.tables.specs.Places.{Place}
+use Rattle.supports.specs.Governing.{supportWidth, fiveFrom, supportNumber, supportIn}
+use Rattle.supports.specs.Meaning.{GoverningAt}
+use Rattle.supports.proofs.Faces.{length-on}
+use Rattle.supports.proofs.Meaning.{governing-is}
 use Rattle.moments.specs.Lent.{Lent}
 use Rattle.moments.specs.Tables.{Lodged}
 use Rattle.moments.specs.Opening.{openRefusal, Opened}
-use Rattle.moments.specs.Changing.{Changed}
-use Rattle.moments.specs.Meaning.{GivenOpening, GivenChanging, LentOf, LentNamed, OpeningSays, ChangeSays}
+use Rattle.moments.specs.Changing.{changeNumber, Changed}
+use Rattle.moments.specs.Meaning.{GivenOpening, GivenChanging, Supported, Agrees, LentOf, LentNamed, OpeningSays, ChangeSays}
 use Rattle.moments.specs.Mornings.{Morning, standing}
-use Rattle.moments.proofs.Room.{open-parts, open-whole, given-opening}
-use Rattle.moments.proofs.Meaning.{earned, lent-of, lent-of-one, opening-says, change-says}
+use Rattle.moments.proofs.Room.{open-parts, open-whole, given-opening, given-changing}
+use Rattle.moments.proofs.Meaning.{earned, lent-of, lent-of-one, opening-says, change-says, agrees}
 use Rattle.moments.proofs.Sums.{adds-up}
-use Rattle.moments.proofs.Demand.{morning, at-its-end}
+use Rattle.moments.proofs.Governed.{agrees-at, by-zeros}
+use Rattle.moments.proofs.Demand.{taken-of, morning, at-its-end}
 use Rattle.steel.proofs.Answers.{steel-answer}
 use Rattle.gandhrumil.specs.Demands.{Told, DemandOne, DemandTwo, DemandThree}
 
+-- the five numbers of a support in the slice are the support's by the table, where the two agree
+five-is : (f : List ℕ) (l : Lent) → Agrees f l → (p : Place) → Supported f p
+    → fiveFrom (l .governing) (supportNumber (baysOf f) p * supportWidth) ≡ supportIn (baysOf f) (l .table) p
+five-is f l agrees p h =
+    ext-getD 0 _ _ (sym (length-on (l .table) _ _ _)) (λ i hi. five-at (l .governing) (supportNumber (baysOf f) p * supportWidth) i hi ∙ agrees-at f l agrees p h i hi)
+  where
+    five-at : (g : List ℕ) (a i : ℕ) → i < 5 → getD (fiveFrom g a) i 0 ≡ getD g (a + i) 0
+    five-at g a zero hi = let e : a ≡ a + 0 = omega arith in ap (λ (j : ℕ). getD g j 0) e
+    five-at g a (suc zero) hi = refl
+    five-at g a (suc (suc zero)) hi = refl
+    five-at g a (suc (suc (suc zero))) hi = refl
+    five-at g a (suc (suc (suc (suc zero)))) hi = refl
+    five-at g a (suc (suc (suc (suc (suc i))))) hi = absurd (omega arith)
+
 -- the verdict of a floor and its table, number by number
 told : {f : List ℕ} {l l′ : Lent} {v : ℕ} → refusal f ≡ 0 → Broken f v → LentOf f l l′ → Told f l v l′
-told accepted b lent =
+told {f} {l′ = l′} accepted b lent =
     let table = lent .table in
     record {
       verdict = b;
@@ -34,6 +58,9 @@ told accepted b lent =
       none = table .broken;
       past = table .past;
       same-length = table .same-length;
+      governing = lent .governing;
+      supports = λ p h. subst (GoverningAt (baysOf f) (l′ .table) p) (sym (five-is f l′ (lent .governing .agrees) p h)) (governing-is (baysOf f) (l′ .table) p);
+      ungoverned = λ no p h n hn. agrees-at f l′ (lent .governing .agrees) p h n hn ∙ by-zeros f accepted _ (table .broken no) p h n hn;
     }
 
 -- no second verdict and no second table tell it
@@ -42,7 +69,10 @@ told-one {f} accepted p q = (broken-one (p .verdict) (q .verdict), lent-of-one f
   where
     held : {l u : Lent} {v : ℕ} → Told f l v u → LentOf f l u
     held x =
-        record { table = record { same-length = x .same-length; past = x .past; stands = λ clear p h. x .moments clear p h .0; broken = x .none } }
+        record {
+          table = record { same-length = x .same-length; past = x .past; stands = λ clear p h. x .moments clear p h .0; broken = x .none };
+          governing = x .governing;
+        }
 
 -- ---- opening
 
@@ -92,9 +122,11 @@ module _ {f c f′ : List ℕ} {l l′ : Lent} {a : Answer} (o : Changed f l c a
   change-verdict : a .refusal ≡ 0 → Broken f′ (a .value)
   change-verdict z = rw (change .taken (taken z)) (change .answer .verdict (taken z))
 
-  change-stored : a .refusal ≡ 0 → (f′ ≡ changed f c) × (¬ (Clear f × Clear f′) → LentOf f′ l l′)
+  change-stored : a .refusal ≡ 0 → (f′ ≡ changed f c) × (¬ (Clear f × Clear f′) → Told f′ l (a .value) l′)
   change-stored z =
-      let e = change .taken (taken z) in (e, λ no. rw e (change .whole (taken z) (λ both. no (both .0, rw e (both .1)))))
+      let e = change .taken (taken z) in
+      let number : changeNumber f l c ≡ 0 = given-changing _ f l c .1 (change .given) ∙ taken z in
+      (e, λ apart. told (rw e (taken-of f c l number .left)) (change-verdict z) (rw e (change .whole (taken z) (λ both. apart (both .0, rw e (both .1))))))
 
   change-written : a .refusal ≡ 0 → Clear f → Clear f′ → LentNamed f′ (changeKind c) (changeIndex c) l l′
   change-written z before after =
@@ -130,4 +162,4 @@ demand-two =
     }
 
 pub demand-three : DemandThree
-demand-three = record { morning = morning; afterwards = afterwards; stored = change-stored; written = change-written }
+demand-three = record { morning = morning; afterwards = afterwards; stored = change-stored; agrees = agrees; written = change-written }

@@ -1,7 +1,7 @@
 -- The three demands on the product, in their own words, as statements about what the exported functions promise. proofs/Demands shows them.
 -- `Opened` and `Changed` are the promises of opening and of a change (crate moments), `panelOf` that of the panel query (crate verdict), `steelOf` that of
 -- the steel query (crate steel); none of them asks anything of the caller. What these say is said here by statements: `GivenBy` a chain of checks in the
--- order tried, `Broken`, `Clear`, `PanelEnough`, `Fits`, and `rightNumber`, the number that the rules give.
+-- order tried, `Broken`, `Clear`, `PanelEnough`, `Fits`, `rightNumber`, the number that the rules give, and `GoverningAt`, the five of a support.
 -- Assumes nothing.
 use Prim.Native.Nat.{ℕ, _*_, _≤_, _<_}
 use mathlib.Core.List.{List}
@@ -16,11 +16,14 @@ use Rattle.limits.specs.Meaning.{Broken, Clear}
 use Rattle.verdict.specs.Answers.{panelOf, PanelAnswer}
 use Rattle.tables.specs.Width.{recordWidth}
 use Rattle.tables.specs.Places.{Place, Inside, recordCount}
+use Rattle.plan.specs.Plan.{baysOf}
+use Rattle.supports.specs.Governing.{supportWidth, fiveFrom, supportNumber}
+use Rattle.supports.specs.Meaning.{GoverningAt}
 use Rattle.moments.specs.Lent.{Lent}
 use Rattle.moments.specs.Tables.{Lodged}
 use Rattle.moments.specs.Opening.{Opened}
 use Rattle.moments.specs.Changing.{Changed}
-use Rattle.moments.specs.Meaning.{GivenOpening, GivenChanging, Earned, numberIn, rightNumber, AddsUp, LentOf, LentNamed}
+use Rattle.moments.specs.Meaning.{GivenOpening, GivenChanging, Earned, numberIn, rightNumber, AddsUp, governingIn, Supported, Agrees, GoverningOf, LentNamed}
 use Rattle.moments.specs.Mornings.{Morning, standing, Held}
 use Rattle.steel.specs.declared.query.Query.{Query}
 use Rattle.steel.specs.Query.{InRange}
@@ -40,7 +43,8 @@ pub record DemandOne : Type 0 where
   pub steel : (q : Query) → SteelAnswer q (steelOf q)
 
 -- What verdict v and the table tell of floor f: which limits are broken; if none is, every number is the one that the rules give, and the three
--- parts of each section add up; otherwise all numbers are 0. Numbers past the table are as they were lent.
+-- parts of each section add up; otherwise all numbers are 0. The governing slice agrees with the table, and is 0 where the table is (02, One).
+-- Numbers past the table and past the slice are as they were lent.
 pub record Told (f : List ℕ) (l : Lent) (v : ℕ) (l′ : Lent) : Type 0 where
   pub verdict : Broken f v
   pub moments : Clear f → (p : Place) → Inside f p
@@ -48,6 +52,9 @@ pub record Told (f : List ℕ) (l : Lent) (v : ℕ) (l′ : Lent) : Type 0 where
   pub none : ¬ Clear f → (p : Place) → Inside f p → (n : ℕ) → n < recordWidth → numberIn f (l′ .table) p n ≡ 0
   pub past : (i : ℕ) → recordCount f * recordWidth ≤ i → getD (l′ .table) i 0 ≡ getD (l .table) i 0
   pub same-length : length (l′ .table) ≡ length (l .table)
+  pub governing : GoverningOf f l l′
+  pub supports : (p : Place) → Supported f p → GoverningAt (baysOf f) (l′ .table) p (fiveFrom (l′ .governing) (supportNumber (baysOf f) p * supportWidth))
+  pub ungoverned : ¬ Clear f → (p : Place) → Supported f p → (n : ℕ) → n < supportWidth → governingIn f (l′ .governing) p n ≡ 0
 
 -- "A floor is accepted exactly when document 01's rules accept it. The verdict names exactly the limits that are broken, and whether the slab is
 -- too thin. With none broken and the slab thick enough, each beam, slab and middle strip moment is the one the rules give, and the three add up to
@@ -72,8 +79,11 @@ pub record DemandThree : Type 0 where
   -- so at its end the last verdict given and the table describe the floor as it then is
   pub afterwards : {f f′ : List ℕ} {l l₁ l′ : Lent} {a : Answer} {cs : List (List ℕ)} {rs : List Answer}
       → Opened f l a l₁ → a .refusal ≡ 0 → Morning f l₁ cs rs f′ l′ → Told f′ l (standing (a .value) rs) l′
-  -- each change by itself, over any lent table, right or wrong: the floor is the changed one, and where a verdict is not clear the table is its whole
+  -- each change by itself, over any lent table and slice, right or wrong: the floor is the changed one, and where either verdict is not clear the whole
+  -- table and every support are written
   pub stored : {f c f′ : List ℕ} {l l′ : Lent} {a : Answer} → Changed f l c a f′ l′
-      → a .refusal ≡ 0 → (f′ ≡ changed f c) × (¬ (Clear f × Clear f′) → LentOf f′ l l′)
+      → a .refusal ≡ 0 → (f′ ≡ changed f c) × (¬ (Clear f × Clear f′) → Told f′ l (a .value) l′)
+  -- 02, One: "If the slice agreed with the table before a change, it agrees with it after"
+  pub agrees : {f c f′ : List ℕ} {l l′ : Lent} {a : Answer} → Changed f l c a f′ l′ → Agrees f l → Agrees f′ l′
   pub written : {f c f′ : List ℕ} {l l′ : Lent} {a : Answer} → Changed f l c a f′ l′
       → a .refusal ≡ 0 → Clear f → Clear f′ → LentNamed f′ (changeKind c) (changeIndex c) l l′

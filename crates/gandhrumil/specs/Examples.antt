@@ -72,7 +72,7 @@ lighter = entry 3 0 7000 4500 0
 
 -- ---- what is said of them
 
--- floor f is accepted, v names what is broken, and opening it answers so wherever its table has room
+-- floor f is accepted, v names what is broken, and opening it answers so wherever table and slice have room
 pub record Example (f : List ℕ) (v : ℕ) : Type 0 where
   pub accepted : Given 0 f
   pub judged : Broken f v

@@ -10,20 +10,25 @@ ghost use Rattle.steel.specs.Steel.{steelOf};
 use answers::Answer;
 use steel::query::Query;
 
-// Opens a floor: its refusal, or its verdict and its table.
+// Opens a floor: its refusal, or its verdict with its table and its governing negatives.
 #[no_mangle]
-pub extern "C" fn gandhrumil_open(floor: &[u8], table: &mut [u32]) -> Answer
-    ensures { λ r. ⌜ Opened (now (floor .entry)) (lent (now (table .entry))) r (lent (now (table .exit))) ⌝ }
+pub extern "C" fn gandhrumil_open(floor: &[u8], table: &mut [u32], governing: &mut [u32]) -> Answer
+    ensures { λ r. ⌜ Opened (now (floor .entry)) (lent (now (table .entry)) (now (governing .entry))) r (lent (now (table .exit)) (now (governing .exit))) ⌝ }
 {
-    moments::open(floor, table)
+    moments::open(floor, table, governing)
 }
 
-// A change to a floor and its table: refused, and neither is touched, or taken, with the verdict of the floor it made.
+// A change to a floor and what is lent beside it: refused, and nothing is touched, or taken, with the verdict of the floor it made.
 #[no_mangle]
-pub extern "C" fn gandhrumil_change(floor: &mut [u8], table: &mut [u32], change: &[u8]) -> Answer
-    ensures { λ r. ⌜ Changed (now (floor .entry)) (lent (now (table .entry))) (now (change .entry)) r (now (floor .exit)) (lent (now (table .exit))) ⌝ }
+pub extern "C" fn gandhrumil_change(
+    floor: &mut [u8],
+    table: &mut [u32],
+    governing: &mut [u32],
+    change: &[u8],
+) -> Answer
+    ensures { λ r. ⌜ Changed (now (floor .entry)) (lent (now (table .entry)) (now (governing .entry))) (now (change .entry)) r (now (floor .exit)) (lent (now (table .exit)) (now (governing .exit))) ⌝ }
 {
-    moments::change(floor, table, change)
+    moments::change(floor, table, governing, change)
 }
 
 // The least thickness in mm of the panel of x bay x and y bay y.

@@ -5,6 +5,7 @@ use Prim.Native.Nat.{ℕ}
 use mathlib.Core.Bool.{Bool, true, false, cond}
 use mathlib.Core.List.{List, [], _∷_}
 use mathlib.Core.Path.{_≡_, refl, sym, ap, _∙_}
+use native.Mathlib.Omega.{arith}
 use borrow.Author.Tests.{ne-eqb}
 use lib.Dec.{eqb}
 use Rattle.numbers.specs.Tests.{Says}
@@ -16,14 +17,21 @@ use Rattle.changes.proofs.Given.{taken}
 use Rattle.answers.specs.declared.Answer.{Answer}
 use Rattle.answers.specs.Answers.{answer, answered}
 use Rattle.limits.specs.Limits.{verdict}
-use Rattle.moments.specs.Lent.{Lent, lent}
-use Rattle.moments.specs.Tables.{afresh, roomChecks, Lodged}
+use Rattle.plan.specs.declared.ways.Way.the-variants.{X, Y}
+use Rattle.plan.specs.Plan.{baysOf}
+use Rattle.numbers.specs.Records.{every}
+use Rattle.supports.proofs.Governed.{length-governed, governed-past}
+use Rattle.moments.specs.Lent.{Lent}
+use Rattle.moments.specs.Tables.{fresh, afresh, roomChecks, Lodged}
 use Rattle.moments.specs.Opening.{openRefusal, Opened}
-use Rattle.moments.specs.Changing.{changingChecks, changeNumber, floorAfter, lentAfter, Changed}
+use Rattle.moments.specs.Changing.{changingChecks, changeNumber, regoverned, remade, floorAfter, lentAfter, Changed}
+use Rattle.moments.specs.Meaning.{byTable}
 use Rattle.moments.specs.Mornings.{Morning, placed, gave, standing, Held}
 use Rattle.moments.specs.Mornings.Morning.{none, then}
 use Rattle.moments.proofs.Room.{open-parts, change-parts}
-use Rattle.moments.proofs.Fresh.{length-fresh, count-kept, made-fresh}
+use Rattle.moments.proofs.Fresh.{length-fresh, same-bays, count-kept, made-fresh}
+use Rattle.moments.proofs.Governed.{same-lent, by-supports, agrees-at, governing-of}
+use Rattle.moments.proofs.Agreement.{agrees-remade}
 
 -- two choices by one test are equal where their first are, and their second
 both-ways : {A B : Type 0} {b : Bool} {P : Type 0} {x y : A} {z w : B} → Says b P → (G : B → A) → (P → x ≡ G z) → y ≡ G w → cond b x y ≡ G (cond b z w)
@@ -37,7 +45,10 @@ module _ (f c : List ℕ) (l : Lent) where
   taken-of e = taken f c .0 (change-parts f l c e .0)
 
   pub lodged-changed : changeNumber f l c ≡ 0 → Lodged (changed f c) l
-  lodged-changed z = record { table = rw (count-kept f c (taken-of z)) (change-parts f l c z .1 .table) }
+  lodged-changed z =
+      let q = taken-of z in
+      let room = change-parts f l c z .1 in
+      record { table = rw (count-kept f c q) (room .table); governing = rw (same-bays f c q X, same-bays f c q Y) (room .governing) }
 
   -- the verdict that is answered is that of the floor left
   pub same-answer : answered (changeNumber f l c) (verdict (changed f c)) ≡ answered (changeNumber f l c) (verdict (floorAfter f l c))
@@ -49,17 +60,41 @@ module _ (f c : List ℕ) (l : Lent) where
 -- no length changes where what is lent is worked out afresh, so no refusal does
 room-kept : (f : List ℕ) (l : Lent) → Lodged f l → roomChecks f (afresh f l) ≡ roomChecks f l
 unfolding roomChecks
-room-kept f l h = rw (length-fresh f (l .table) (h .table))
+room-kept f l h = rw (length-fresh f (l .table) (h .table), length-governed (baysOf f) every (fresh f (l .table)) (l .governing) (h .governing))
 
 module _ (f c : List ℕ) (l : Lent) (h : Lodged f l) where
   number-kept : changeNumber f (afresh f l) c ≡ changeNumber f l c
   unfolding changeNumber changingChecks
   number-kept = rw (room-kept f l h)
 
+  -- what a change leaves of what was worked out afresh is worked out afresh
+  made-afresh : (z : changeNumber f l c ≡ 0) → remade f c (afresh f l) ≡ afresh (changed f c) l
+  unfolding regoverned
+  made-afresh z = same-lent table governing
+    where
+      room : Lodged (changed f c) l
+      room = lodged-changed f c l z
+
+      lodged : Lodged (changed f c) (afresh f l)
+      lodged = record { table = omega (arith, length-fresh f (l .table) (h .table), room .table); governing = omega (arith, length-governed (baysOf f) every (fresh f (l .table)) (l .governing) (h .governing), room .governing) }
+
+      table : remade f c (afresh f l) .table ≡ fresh (changed f c) (l .table)
+      table = made-fresh f c (taken-of f c l z) (l .table) (h .table)
+
+      governing : remade f c (afresh f l) .governing ≡ afresh (changed f c) l .governing
+      governing =
+          by-supports (changed f c) _ _
+          (length-governed _ _ _ _ (lodged .governing) ∙ length-governed (baysOf f) every _ _ (h .governing) ∙ sym (length-governed _ every _ _ (room .governing)))
+          (λ p hp n hn.
+          agrees-at (changed f c) (remade f c (afresh f l)) (agrees-remade f c (taken-of f c l z) (afresh f l) lodged (governing-of f l (fresh f (l .table)) (h .governing) .agrees)) p hp n hn
+          ∙ ap (λ (t : List ℕ). byTable (changed f c) t p n) table
+          ∙ sym (agrees-at (changed f c) (afresh (changed f c) l) (governing-of (changed f c) l (fresh (changed f c) (l .table)) (room .governing) .agrees) p hp n hn))
+          (λ i hi. governed-past _ _ _ _ (lodged .governing) i hi ∙ governed-past (baysOf f) every _ _ (h .governing) i (rw (same-bays f c (taken-of f c l z) X, same-bays f c (taken-of f c l z) Y) at hi) ∙ sym (governed-past _ every _ _ (room .governing) i hi))
+
   lent-after : lentAfter f (afresh f l) c ≡ afresh (floorAfter f l c) l
   lent-after =
       rw number-kept
-      (both-ways (says-eq (changeNumber f l c) 0) (λ g. afresh g l) (λ z. ap lent (made-fresh f c (taken-of f c l z) (l .table) (h .table))) refl)
+      (both-ways (says-eq (changeNumber f l c) 0) (λ g. afresh g l) made-afresh refl)
 
 -- ---- a run of them
 

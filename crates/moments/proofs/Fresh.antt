@@ -54,7 +54,7 @@ module _ (f c : List ℕ) (t : TakenChange f c) where
   abbrev g : List ℕ
   g = changed f c
 
-  same-bays : (d : Way) → bays g d ≡ bays f d
+  pub same-bays : (d : Way) → bays g d ≡ bays f d
   same-bays = bays-kept f c (t .held) (t .fits)
 
   pub count-kept : recordCount g ≡ recordCount f

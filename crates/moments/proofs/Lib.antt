@@ -1,9 +1,11 @@
 pub mod SameLayout
 pub mod SameView
 pub mod Fresh
-pub mod Demand
 pub mod Room
 pub mod Numbers
+pub mod Governed
+pub mod Agreement
+pub mod Demand
 pub mod Meaning
 pub mod Ways
 pub mod Sums

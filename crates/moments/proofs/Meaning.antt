@@ -3,7 +3,7 @@
 use Prim.Native.Nat.{ℕ}
 use mathlib.Core.Bool.{_&&_}
 use mathlib.Core.List.{List}
-use mathlib.Core.Path.{_≡_, refl, sym, ap, subst, _∙_}
+use mathlib.Core.Path.{_≡_, refl, sym, subst, _∙_}
 use native.Mathlib.Omega.{arith}
 use borrow.Author.Tests.{ne-eqb}
 use Rattle.numbers.specs.Tests.{Says}
@@ -16,11 +16,13 @@ use Rattle.limits.specs.Limits.{verdict}
 use Rattle.limits.specs.Meaning.{Clear}
 use Rattle.limits.proofs.Meaning.{broken, broken-one}
 use Rattle.answers.proofs.Answers.{same-answer}
-use Rattle.moments.specs.Lent.{Lent, lent}
-use Rattle.moments.specs.Tables.{clear, afresh, Lodged}
+use Rattle.moments.specs.Lent.{Lent}
+use Rattle.moments.specs.Tables.{clear, fresh, afresh, Lodged}
 use Rattle.moments.specs.Opening.{openRefusal, Opened}
-use Rattle.moments.specs.Changing.{changeNumber, rewritten, lentAfter, Changed}
-use Rattle.moments.specs.Meaning.{LentOf, LentNamed, Judged, Earned, OpeningSays, ChangeSays}
+use Rattle.moments.specs.Changing.{changeNumber, rewritten, regoverned, floorAfter, lentAfter, Changed}
+use Rattle.moments.specs.Meaning.{Agrees, LentOf, LentNamed, Judged, Earned, OpeningSays, ChangeSays}
+use Rattle.moments.proofs.Governed.{same-lent, governing-of, governing-of-one, governing-named, governing-named-one}
+use Rattle.moments.proofs.Agreement.{says-written, agrees-remade}
 use Rattle.moments.proofs.Demand.{taken-of, lodged-changed}
 use Rattle.moments.proofs.Room.{open-parts, given-opening, given-changing}
 use Rattle.moments.proofs.Numbers.{says-clear, table-of, named-of, table-of-one, named-of-one}
@@ -45,13 +47,12 @@ earned p = (λ e z. absurd (omega (arith, p .verdict (sym (p .refusal) ∙ z) .m
 -- ---- everything lent
 
 pub lent-of : (f : List ℕ) (l : Lent) → refusal f ≡ 0 → Lodged f l → LentOf f l (afresh f l)
-lent-of f l e room = record { table = table-of f (l .table) (room .table) e }
+lent-of f l e room =
+    record { table = table-of f (l .table) (room .table) e; governing = governing-of f l (fresh f (l .table)) (room .governing) }
 
 pub lent-of-one : (f : List ℕ) → refusal f ≡ 0 → {l u v : Lent} → LentOf f l u → LentOf f l v → u ≡ v
-lent-of-one f e p q = ap lent (table-of-one f e (p .table) (q .table))
-
-pub lent-named-one : (f : List ℕ) {kind index : ℕ} {l u v : Lent} → LentNamed f kind index l u → LentNamed f kind index l v → u ≡ v
-lent-named-one f p q = ap lent (named-of-one f (p .table) (q .table))
+lent-of-one f e p q =
+    let same = table-of-one f e (p .table) (q .table) in same-lent same (governing-of-one f same (p .governing) (q .governing))
 
 -- ---- opening
 
@@ -86,13 +87,23 @@ module _ (f c : List ℕ) (l : Lent) where
   both-clear z = let taken = taken-of f c l z in says-and (says-clear f (taken .held)) (says-clear g (taken .left))
 
   whole-table : number ≡ 0 → ¬ (Clear f × Clear g) → LentOf g l (lentAfter f l c)
-  unfolding rewritten
+  unfolding rewritten regoverned
   whole-table z ne = rw (z, fails (both-clear z) ne) (lent-of g l (taken-of f c l z .left) (lodged-changed f c l z))
 
   some-records : number ≡ 0 → Clear f → Clear g → LentNamed g (changeKind c) (changeIndex c) l (lentAfter f l c)
-  unfolding rewritten
+  unfolding rewritten regoverned
   some-records z p q =
-      rw (z, both-clear z .passes (p, q)) (record { table = named-of g (l .table) (lodged-changed f c l z .table) (changeKind c) (changeIndex c) })
+      let room = lodged-changed f c l z in
+      rw (z, both-clear z .passes (p, q))
+      (record {
+        table = named-of g (l .table) (room .table) (changeKind c) (changeIndex c);
+        governing = governing-named g l _ (room .governing) (changeKind c) (changeIndex c) (says-written f c (taken-of f c l z));
+      })
+
+  lent-named-one : number ≡ 0 → {u v : Lent} → LentNamed g (changeKind c) (changeIndex c) l u → LentNamed g (changeKind c) (changeIndex c) l v → u ≡ v
+  lent-named-one z p q =
+      let same = named-of-one g (p .table) (q .table) in
+      same-lent same (governing-named-one g (says-written f c (taken-of f c l z)) same (p .governing) (q .governing))
 
   pub change-says : {a : Answer} {f′ : List ℕ} {l′ : Lent} → Changed f l c a f′ l′ → ChangeSays f l c a f′ l′
   change-says o =
@@ -114,7 +125,17 @@ module _ (f c : List ℕ) (l : Lent) where
         by-says (says-eq (p .number) 0)
             (λ z. let taken : number ≡ 0 = given-changing _ f l c .1 (p .given) ∙ z in
             by-says (both-clear taken)
-            (λ y. lent-named-one g (p .some z (y .0) (y .1)) (q .some (sym e ∙ z) (y .0) (y .1)))
+            (λ y. lent-named-one taken (p .some z (y .0) (y .1)) (q .some (sym e ∙ z) (y .0) (y .1)))
             (λ no. lent-of-one g (taken-of f c l taken .left) (p .whole z no) (q .whole (sym e ∙ z) no)))
             (λ ne. p .refused ne .1 ∙ sym (q .refused (λ z. ne (e ∙ z)) .1)),
       )
+
+  -- ---- "If the slice agreed with the table before a change, it agrees with it after"
+
+  after-change : Agrees f l → Agrees (floorAfter f l c) (lentAfter f l c)
+  after-change agree =
+      by-says (says-eq number 0) (λ z. rw z (agrees-remade f c (taken-of f c l z) l (lodged-changed f c l z) agree))
+      (λ ne. rw (ne-eqb number 0 ne) agree)
+
+pub agrees : {f c f′ : List ℕ} {l l′ : Lent} {a : Answer} → Changed f l c a f′ l′ → Agrees f l → Agrees f′ l′
+agrees {f} {c} {l = l} o agree = rw (o .floor, o .lent) (after-change f c l agree)

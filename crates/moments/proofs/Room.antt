@@ -1,6 +1,6 @@
 -- The numbers of opening and of a change: given exactly when their statements say so, and what success says of the floor and of what is lent.
 -- Assumes nothing.
-use Prim.Native.Nat.{ℕ, _*_, _≤_}
+use Prim.Native.Nat.{ℕ, _*_}
 use mathlib.Core.Bool.{cond}
 use mathlib.Core.List.{List, _++_}
 use mathlib.Core.Logic.{_↔_}
@@ -16,8 +16,10 @@ use Rattle.floor.proofs.Meaning.{sound-floor}
 use Rattle.changes.specs.declared.Ruling.{Ruling}
 use Rattle.changes.specs.Refusal.{changeRefusal, ruling}
 use Rattle.changes.proofs.Given.{sound-change, number-ruled}
+use Rattle.plan.specs.Plan.{baysOf}
 use Rattle.tables.specs.Width.{recordWidth}
 use Rattle.tables.specs.Places.{recordCount}
+use Rattle.supports.specs.Governing.{supportWidth, supportCount}
 use Rattle.moments.specs.Lent.{Lent}
 use Rattle.moments.specs.Tables.{roomChecks, Lodged, roomRefusal}
 use Rattle.moments.specs.Opening.{openChecks, openRefusal}
@@ -26,7 +28,8 @@ use Rattle.moments.specs.Meaning.{GivenOpening, GivenChanging}
 
 sound-room : (f : List ℕ) (l : Lent) → Sound (roomChecks f l)
 unfolding roomChecks
-sound-room f l = says-le (recordCount f * recordWidth) (length (l .table)) then done
+sound-room f l =
+    says-le (recordCount f * recordWidth) (length (l .table)) then (says-le (supportCount (baysOf f) * supportWidth) (length (l .governing)) then done)
 
 pub given-opening : (n : ℕ) (f : List ℕ) (l : Lent) → (openRefusal f l ≡ n) ↔ GivenOpening f l n
 unfolding openRefusal openChecks
@@ -40,11 +43,11 @@ given-changing n f l c = answers (sound-change f c before sound-room f l) n
 
 room-of : (f : List ℕ) (l : Lent) → tried (roomChecks f l) ≡ 0 → Lodged f l
 unfolding roomChecks Holds
-room-of f l e = record { table = success (sound-room f l) .0 e .0 }
+room-of f l e = let h = success (sound-room f l) .0 e in record { table = h .0; governing = h .1 .0 }
 
 room-is : (f : List ℕ) (l : Lent) → Lodged f l → tried (roomChecks f l) ≡ 0
 unfolding roomChecks Holds
-room-is f l h = success (sound-room f l) .1 (h .table, tt)
+room-is f l h = success (sound-room f l) .1 (h .table, (h .governing, tt))
 
 pub open-parts : (f : List ℕ) (l : Lent) → openRefusal f l ≡ 0 → (refusal f ≡ 0) × Lodged f l
 unfolding openRefusal openChecks refusal

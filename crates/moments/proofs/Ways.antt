@@ -1,16 +1,25 @@
 -- Each way out of opening and of a change, with what was answered on it as premises; and the whole table, written by naming all or by zeros.
 -- Assumes nothing.
-use Prim.Native.Nat.{ℕ}
-use mathlib.Core.Bool.{Bool, true, false, _&&_}
+use Prim.Native.Nat.{ℕ, _≤_, _<_, zero-le}
+use mathlib.Core.Bool.{Bool, true, false, cond, _&&_}
 use mathlib.Core.List.{List}
 use mathlib.Core.Path.{_≡_, refl, sym, ap, _∙_}
 use native.Mathlib.Omega.{arith}
 use lib.Dec.{eqb}
+use lib.ListN.{length}
 use borrow.Author.Tests.{ne-eqb, eqb-true, eqb-false}
 use Rattle.numbers.specs.Records.{every}
 use Rattle.numbers.proofs.Tests.{says-itself, says-and}
 use Rattle.numbers.proofs.Written.{same-written}
 use Rattle.records.specs.Kinds.{countOf}
+use Rattle.records.proofs.Places.{count-most}
+use Rattle.plan.specs.declared.ways.Way.{Way}
+use Rattle.plan.specs.declared.ways.Way.the-variants.{X, Y}
+use Rattle.plan.specs.declared.read.Bays.{Bays}
+use Rattle.plan.specs.Ways.{spanKind}
+use Rattle.plan.specs.Plan.{bays, baysOf, many}
+use Rattle.plan.proofs.Reading.{bays-most}
+use Rattle.plan.proofs.Directions.{span-count}
 use Rattle.changes.specs.Change.{changeKind, changeIndex, changed}
 use Rattle.changes.specs.declared.Ruling.{Ruling}
 use Rattle.changes.specs.Refusal.{ruling}
@@ -23,6 +32,7 @@ use Rattle.answers.specs.Answers.{answer}
 use Rattle.limits.specs.Limits.{verdict}
 use Rattle.tables.specs.Width.{recordWidth}
 use Rattle.lines.specs.declared.slab.Slab.{Slab}
+use Rattle.lines.specs.Slabs.{slabOf}
 use Rattle.lines.proofs.Slabs.{sized-of}
 use Rattle.tables.specs.Places.{recordsOf, recordCount}
 use Rattle.tables.specs.Asked.{Bayed}
@@ -31,14 +41,19 @@ use Rattle.tables.specs.Blank.{zeros, blanked}
 use Rattle.tables.specs.Meaning.Names.{loads}
 use Rattle.tables.proofs.Numbered.{bayed, counted}
 use Rattle.tables.proofs.Meaning.{says-named-at}
+use Rattle.supports.specs.Governing.{supportWidth, spansOf, supportCount, supportAt, governed}
+use Rattle.supports.specs.Beside.{besideAt}
+use Rattle.supports.specs.Asked.{Supporting}
+use Rattle.supports.proofs.Besides.{spans-are, all-beside}
 use Rattle.frames.specs.Asked.{Listed, InTable}
 use Rattle.frames.specs.Table.{recordAt, namedWritten}
 use Rattle.moments.specs.Lent.{Lent, lent}
 use Rattle.moments.specs.Tables.{rightRecord, fresh, afresh}
 use Rattle.moments.specs.Opening.{openRefusal, Opened}
-use Rattle.moments.specs.Changing.{changeNumber, rewritten, remade, Changed}
+use Rattle.moments.specs.Changing.{changeNumber, rewritten, regoverned, remadeOf, remade, Changed}
 use Rattle.moments.specs.Asked.{Settling, Judging, Rewriting}
 use Rattle.moments.proofs.Fresh.{right-clear}
+use Rattle.moments.proofs.Governed.{same-lent, some-spans}
 use Rattle.moments.proofs.Room.{open-parts, change-parts}
 use Rattle.moments.proofs.Demand.{taken-of, lodged-changed}
 
@@ -109,10 +124,10 @@ module _ (f : List ℕ) (l : Lent) {number : ℕ} (e : number ≡ openRefusal f 
   opened-refused ne ea = record { answer = ea ∙ rw (← e, ne-eqb number 0 ne); lent = rw (← e, ne-eqb number 0 ne) }
 
   -- all records of an accepted floor are settled as by a change of its loads
-  pub opened-settling : number ≡ 0 → Settling f (l .table) 3 0
+  pub opened-settling : number ≡ 0 → Settling f (l .table) (l .governing) 3 0
   opened-settling z =
       let h = open-parts f l (sym e ∙ z) in
-      record { accepted = h .0; table = record { room = h .1 .table }; listed = loads-there f }
+      record { accepted = h .0; table = record { room = h .1 .table }; governing = record { room = h .1 .governing }; listed = loads-there f }
 
   pub opened-filled : {v : ℕ} {a : Answer} {l′ : Lent} → number ≡ 0 → v ≡ verdict f → l′ ≡ afresh f l → a ≡ answer 0 v → Opened f l a l′
   opened-filled z ev el ea = record { answer = ea ∙ rw (← e, z) (ap (answer 0) ev); lent = rw (← e, z) el }
@@ -132,12 +147,13 @@ module _ (f c : List ℕ) (l : Lent) {number : ℕ} (e : number ≡ changeNumber
 
   -- the record that a taken change was put into is there
   pub changed-settling : {g : List ℕ} {kind index : ℕ} → number ≡ 0 → g ≡ changed f c → kind ≡ changeKind c → index ≡ changeIndex c
-      → Settling g (l .table) kind index
+      → Settling g (l .table) (l .governing) kind index
   changed-settling z eg ek ei =
       let q = changed-takes z in
       record {
         accepted = rw eg (q .left);
         table = record { room = rw eg (lodged-changed f c l (sym e ∙ z) .table) };
+        governing = record { room = rw eg (lodged-changed f c l (sym e ∙ z) .governing) };
         listed = record { there = rw (eg, ek, ei, many-kept f c (q .held) (q .fits) (changeKind c)) (q .fits .index) };
       }
 
@@ -146,7 +162,48 @@ module _ (f c : List ℕ) (l : Lent) {number : ℕ} (e : number ≡ changeNumber
   changed-taken z eg ev el ea =
       record { answer = ea ∙ rw (← e, z) (ap (answer 0) (ev ∙ rw eg)); floor = rw (← e, z) eg; lent = rw (← e, z) el }
 
--- a table rewritten by what was read of floor and change
-pub remade-table : (f c t : List ℕ) {g u : List ℕ} {before kind index : ℕ} → before ≡ verdict f → g ≡ changed f c
-    → kind ≡ changeKind c → index ≡ changeIndex c → u ≡ rewritten (eqb before 0) g kind index t → lent u ≡ remade f c (lent t)
-remade-table f c t eb eg ek ei eu = ap lent (eu ∙ rw (eb, eg, ek, ei))
+-- what is lent, remade by what was read of floor and change
+pub remade-by : (f c : List ℕ) (l : Lent) {g : List ℕ} {l′ : Lent} {before kind index : ℕ} → before ≡ verdict f → g ≡ changed f c
+    → kind ≡ changeKind c → index ≡ changeIndex c → l′ ≡ remadeOf (eqb before 0) g kind index l → l′ ≡ remade f c l
+remade-by f c l eb eg ek ei el = el ∙ rw (eb, eg, ek, ei)
+
+-- ---- the governing negatives
+
+-- the supports beside what a change of the loads names are all of them
+pub all-governed : (b : Bays) (t g : List ℕ) → ((d : Way) → 1 ≤ spansOf b d) → governed b (besideAt b 3 0) t g ≡ governed b every t g
+unfolding governed
+all-governed b t g some =
+    same-written supportWidth (besideAt b 3 0) every (supportAt b t) (supportAt b t) 0 (supportCount b) g (λ k _ h. all-beside b 0 some (omega arith)) (λ k _ h. refl)
+
+-- a table of an accepted floor, the slice beside it, and the record changed
+there-along : (f : List ℕ) (kind index : ℕ) → index < many f kind → (d : Way) → kind ≡ spanKind d → index < spansOf (baysOf f) d
+there-along f kind index h d e = rw (spans-are f d, ← span-count f d, ← e) h
+
+-- .. or the loads
+pub all-supporting : {b : Bays} {t g : List ℕ} {kind index : ℕ} → Supporting b t g kind index → Supporting b t g 3 0
+all-supporting {b} h =
+    record { bayed = h .bayed; some = h .some; table = h .table; slice = h .slice; index-most = zero-le; there = not-spans }
+  where
+    not-spans : (d : Way) → 3 ≡ spanKind d → 0 < spansOf b d
+    not-spans X e = absurd (omega arith)
+    not-spans Y e = absurd (omega arith)
+
+pub supporting : (f t g : List ℕ) (kind index : ℕ) {slab : Slab} {u : List ℕ} → Settling f t g kind index → slab ≡ slabOf f → length u ≡ length t → Supporting (slab .bays) u g kind index
+unfolding slabOf recordCount
+supporting f t g kind index {slab} {u} h e same =
+    let sized = sized-of f e in
+    record {
+      bayed = bayed sized;
+      some = rw e (some-spans f (h .accepted));
+      table = rw e (omega (arith, h .table .room, same));
+      slice = rw e (h .governing);
+      index-most = omega (arith, h .listed .there, count-most (bays f X) (bays f Y) (record { x = bays-most f X; y = bays-most f Y }) kind);
+      there = rw e (there-along f kind index (h .listed .there));
+    }
+
+-- table and slice, each written in its turn
+pub settled : (f t g : List ℕ) (before : Bool) (kind index : ℕ) {slab : Slab} {v : ℕ} {u h : List ℕ} → slab ≡ slabOf f → v ≡ verdict f
+    → u ≡ rewritten before f kind index t → h ≡ governed (slab .bays) (cond (before && eqb v 0) (besideAt (slab .bays) kind index) every) u g
+    → lent u h ≡ remadeOf before f kind index (lent t g)
+unfolding regoverned slabOf
+settled f t g before kind index es ev eu eh = same-lent eu (eh ∙ rw (es, ev, eu))

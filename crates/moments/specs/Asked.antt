@@ -9,14 +9,18 @@ use Rattle.lines.specs.declared.slab.Slab.{Slab}
 use Rattle.lines.specs.Slabs.{slabOf}
 use Rattle.lines.specs.Rows.{AllAlphas}
 use Rattle.tables.specs.Places.{recordCount}
+use Rattle.plan.specs.Plan.{baysOf}
 use Rattle.tables.specs.Asked.{Room}
+use Rattle.supports.specs.Governing.{supportCount}
+use Rattle.supports.specs.Asked.{SupportRoom}
 use Rattle.frames.specs.Asked.{Listed}
 use Rattle.moments.specs.Tables.{clear}
 
--- an accepted floor, a table that has room for its records, and the kind and index of a record of it
-pub record Settling (f t : List ℕ) (kind index : ℕ) : Type 0 where
+-- an accepted floor, slices that have room for its records and supports, and the kind and index of a record of it
+pub record Settling (f t g : List ℕ) (kind index : ℕ) : Type 0 where
   pub accepted : refusal f ≡ 0
   pub table : Room (recordCount f) t
+  pub governing : SupportRoom (supportCount (baysOf f)) g
   pub listed : Listed f kind index
 
 -- with what its spans share, α of its lines, and whether its verdict is clear

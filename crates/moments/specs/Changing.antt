@@ -1,5 +1,5 @@
--- A change to a floor that has a table: "A change tries 1 to 7 on the held floor, 9, then 5 to 7 on the changed floor, then 8", and
--- "What a change may write".
+-- A change to a floor that has a table and a governing slice: "A change tries 1 to 7 on the held floor, 9, then 5 to 7 on the changed floor, then 8", and
+-- 13 (02, One); and "What a change may write".
 -- Assumes nothing.
 use Prim.Native.Nat.{ℕ}
 use mathlib.Core.Bool.{Bool, cond, _&&_}
@@ -7,14 +7,17 @@ use mathlib.Core.List.{List, _++_}
 use mathlib.Core.Path.{_≡_}
 use lib.Dec.{eqb}
 use Rattle.numbers.specs.Chains.{Chain, tried}
+use Rattle.numbers.specs.Records.{every}
 use Rattle.changes.specs.Change.{changeKind, changeIndex, changed}
 use Rattle.changes.specs.Refusal.{changeChecks}
 use Rattle.answers.specs.declared.Answer.{Answer}
 use Rattle.answers.specs.Answers.{answered}
 use Rattle.limits.specs.Limits.{verdict}
+use Rattle.plan.specs.Plan.{baysOf}
+use Rattle.supports.specs.Beside.{besideAt}
 use Rattle.frames.specs.Table.{namedWritten}
 use Rattle.moments.specs.Lent.{Lent}
-use Rattle.moments.specs.Tables.{clear, fresh, roomChecks}
+use Rattle.moments.specs.Tables.{clear, fresh, governing, roomChecks}
 
 -- the refusal of change c
 unfoldable pub changingChecks : List ℕ → Lent → List ℕ → Chain
@@ -28,9 +31,19 @@ changeNumber f l c = tried (changingChecks f l c)
 unfoldable pub rewritten : Bool → List ℕ → ℕ → ℕ → List ℕ → List ℕ
 rewritten before f kind index t = cond (before && clear f) (namedWritten f kind index t) (fresh f t)
 
--- everything lent, after change c to floor f was stored
+-- 02, One: "only supports next to a written record are written, from the table as it then stands", which is t
+unfoldable pub regoverned : Bool → List ℕ → ℕ → ℕ → List ℕ → List ℕ → List ℕ
+regoverned before f kind index t g = governing f (cond (before && clear f) (besideAt (baysOf f) kind index) every) t g
+
+-- everything lent to what is now floor f, after a change of this kind and index
+abbrev pub remadeOf : Bool → List ℕ → ℕ → ℕ → Lent → Lent
+remadeOf before f kind index l =
+    let t = rewritten before f kind index (l .table) in
+    record { table = t; governing = regoverned before f kind index t (l .governing) }
+
+-- after change c to floor f was stored
 abbrev pub remade : List ℕ → List ℕ → Lent → Lent
-remade f c l = record { table = rewritten (clear f) (changed f c) (changeKind c) (changeIndex c) (l .table) }
+remade f c l = remadeOf (clear f) (changed f c) (changeKind c) (changeIndex c) l
 
 -- what a change leaves of the floor and of what is lent; "Refusals write nothing"
 abbrev pub floorAfter : List ℕ → Lent → List ℕ → List ℕ

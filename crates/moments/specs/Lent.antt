@@ -5,7 +5,9 @@ use mathlib.Core.List.{List}
 
 pub record Lent : Type 0 where
   pub table : List ℕ
+  -- 02, One: "kept in a second lent slice beside the table"
+  pub governing : List ℕ
 
 -- the slices that a call takes
-abbrev pub lent : List ℕ → Lent
-lent t = record { table = t }
+abbrev pub lent : List ℕ → List ℕ → Lent
+lent t g = record { table = t; governing = g }

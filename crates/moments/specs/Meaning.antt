@@ -1,5 +1,5 @@
 -- What opening and a change answer and leave, in the words of 01: each number's cause, and the table number by number.
--- That the equations of `Opening` and `Changing` say these statements, and that no second answer or table does, is proved in proofs/Meaning.
+-- That the equations of `Opening` and `Changing` say these statements, and that no second answer, table or slice does, is proved in proofs/Meaning.
 -- Assumes nothing.
 use Prim.Native.Nat.{ℕ, _+_, _*_, _≤_, _<_}
 use mathlib.Core.Bool.{cond}
@@ -14,18 +14,23 @@ use Rattle.limits.specs.Meaning.{Broken, Clear}
 use Rattle.spans.specs.Record.{recordOf}
 use Rattle.spans.specs.Meaning.{unrestrained}
 use Rattle.tables.specs.Width.{recordWidth}
-use Rattle.tables.specs.Places.{Place, Inside, numberOf, recordCount}
+use Rattle.plan.specs.Plan.{baysOf}
+use Rattle.tables.specs.Places.{Place, InsideOf, Inside, numberOf, recordCount}
 use Rattle.tables.specs.Meaning.{Names}
+use Rattle.supports.specs.Governing.{supportWidth, supportsOf, lastOf, supportCount, supportNumber}
+use Rattle.supports.specs.Governing.{supportIn}
+use Rattle.supports.specs.Meaning as supports
+use Rattle.supports.specs.Meaning.{Beside}
 use Rattle.frames.specs.Table.{viewIn}
 use Rattle.moments.specs.Lent.{Lent}
 use Rattle.moments.specs.Opening.{openChecks}
 use Rattle.moments.specs.Changing.{changingChecks}
 
--- "Opening a floor tries 1 to 8"
+-- "Opening a floor tries 1 to 8"; 02, One: "13 .. tried right after 8"
 abbrev pub GivenOpening : List ℕ → Lent → ℕ → Type 0
 GivenOpening f l = GivenBy (openChecks f l)
 
--- "A change tries 1 to 7 on the held floor, 9, then 5 to 7 on the changed floor, then 8"
+-- "A change tries 1 to 7 on the held floor, 9, then 5 to 7 on the changed floor, then 8", and 13
 abbrev pub GivenChanging : List ℕ → Lent → List ℕ → ℕ → Type 0
 GivenChanging f l c = GivenBy (changingChecks f l c)
 
@@ -63,12 +68,44 @@ pub record NamedOf (f : List ℕ) (kind index : ℕ) (t after : List ℕ) : Type
   pub named : (p : Place) → Inside f p → Names f kind index p → (n : ℕ) → n < recordWidth → numberIn f after p n ≡ rightNumber f p n
   pub others : (p : Place) → Inside f p → ¬ Names f kind index p → (n : ℕ) → n < recordWidth → numberIn f after p n ≡ numberIn f t p n
 
+-- ---- 02, One: the governing negatives beside the table
+
+-- number n of support p, of floor f, in the slice g; and what it is by the table t, right or wrong
+abbrev pub governingIn : List ℕ → List ℕ → Place → ℕ → ℕ
+governingIn f g p n = getD g (supportNumber (baysOf f) p * supportWidth + n) 0
+
+abbrev pub byTable : List ℕ → List ℕ → Place → ℕ → ℕ
+byTable f t p n = getD (supportIn (baysOf f) t p) n 0
+
+-- a support that the floor has
+abbrev pub Supported : List ℕ → Place → Type 0
+Supported f p = InsideOf (supportsOf (baysOf f)) (lastOf (baysOf f)) p
+
+-- the slice agrees with the table, support by support
+abbrev pub Agrees : List ℕ → Lent → Type 0
+Agrees f l = supports.Agrees (baysOf f) (l .table) (l .governing)
+
+-- "Opening fills it with the table"; numbers past it stay
+pub record GoverningOf (f : List ℕ) (l l′ : Lent) : Type 0 where
+  pub same-length : length (l′ .governing) ≡ length (l .governing)
+  pub past : (i : ℕ) → supportCount (baysOf f) * supportWidth ≤ i → getD (l′ .governing) i 0 ≡ getD (l .governing) i 0
+  pub agrees : Agrees f l′
+
+-- "only supports next to a written record are written, from the table as it then stands"
+pub record GoverningNamed (f : List ℕ) (kind index : ℕ) (l l′ : Lent) : Type 0 where
+  pub same-length : length (l′ .governing) ≡ length (l .governing)
+  pub past : (i : ℕ) → supportCount (baysOf f) * supportWidth ≤ i → getD (l′ .governing) i 0 ≡ getD (l .governing) i 0
+  pub beside : (p : Place) → Supported f p → Beside f kind index p → (n : ℕ) → n < supportWidth → governingIn f (l′ .governing) p n ≡ byTable f (l′ .table) p n
+  pub others : (p : Place) → Supported f p → ¬ Beside f kind index p → (n : ℕ) → n < supportWidth → governingIn f (l′ .governing) p n ≡ governingIn f (l .governing) p n
+
 -- everything lent: filled for floor f; or with what a change of this kind and index names
 pub record LentOf (f : List ℕ) (l l′ : Lent) : Type 0 where
   pub table : TableOf f (l .table) (l′ .table)
+  pub governing : GoverningOf f l l′
 
 pub record LentNamed (f : List ℕ) (kind index : ℕ) (l l′ : Lent) : Type 0 where
   pub table : NamedOf f kind index (l .table) (l′ .table)
+  pub governing : GoverningNamed f kind index l l′
 
 -- "A refused opening or change gives verdict 255"; else the verdict names exactly what is broken in floor g
 pub record Judged (g : List ℕ) (number : ℕ) (a : Answer) : Type 0 where

@@ -1,4 +1,5 @@
--- "Opening a floor tries 1 to 8 and, where none applies, fills the table as under Moments."
+-- "Opening a floor tries 1 to 8 and, where none applies, fills the table as under Moments"; 02, One: "Opening fills it with the table", the governing
+-- slice, and 13 is tried right after 8.
 -- Assumes nothing.
 use Prim.Native.Nat.{ℕ}
 use mathlib.Core.Bool.{cond}

@@ -11,7 +11,7 @@ use lib.Seq.{length-take-le, getD-take, getD-drop, getD-append-add, ext-getD}
 use borrow.Author.Tests.{ne-eqb, lt-ltb, le-ltb}
 use Rattle.floor.specs.Refusal.{refusal}
 use Rattle.answers.specs.declared.Answer.{Answer}
-use Rattle.moments.specs.Lent.{Lent, lent}
+use Rattle.moments.specs.Lent.{Lent}
 use Rattle.moments.specs.Opening.{openRefusal, Opened}
 use Rattle.print.specs.Input.{standIn, Stands, ReadOn}
 use Rattle.print.specs.Sheet.{sheetText}
@@ -116,9 +116,9 @@ module _ {f b : List ℕ} {n : ℕ} (s : Stands f b n) where
       lent = rw (ne-eqb (openRefusal f l) 0 (refused l)) (rw (same-number l, ne-eqb (openRefusal f l) 0 (refused l)) at (o .lent));
     }
 
-    sheet : (t : List ℕ) → sheetText (take n b) t ≡ sheetText f t
+    sheet : (l : Lent) → sheetText (take n b) l ≡ sheetText f l
     unfolding sheetText
-    sheet t = rw (same-number (lent t), ne-eqb (openRefusal f (lent t)) 0 (refused (lent t)))
+    sheet l = rw (same-number l, ne-eqb (openRefusal f l) 0 (refused l))
 
   -- THE law: what opening promises of the bytes that are kept, it promises of the whole input
   pub stand-in : {l l′ : Lent} {a : Answer} → Opened (take n b) l a l′ → Opened f l a l′
@@ -128,9 +128,9 @@ module _ {f b : List ℕ} {n : ℕ} (s : Stands f b n) where
         | no h ↦ opened (omega (arith, h)) o
       ]
 
-  pub same-sheet : (t : List ℕ) → sheetText (take n b) t ≡ sheetText f t
-  same-sheet t =
+  pub same-sheet : (l : Lent) → sheetText (take n b) l ≡ sheetText f l
+  same-sheet l =
       elim (decLt (length f) 3584) [
-        | yes h ↦ ap (λ (g : List ℕ). sheetText g t) (whole h)
-        | no h ↦ sheet (omega (arith, h)) t
+        | yes h ↦ ap (λ (g : List ℕ). sheetText g l) (whole h)
+        | no h ↦ sheet (omega (arith, h)) l
       ]

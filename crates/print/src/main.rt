@@ -3,6 +3,7 @@ mod input;
 
 ghost use Rattle.sheets.specs.Wrote.{Line};
 ghost use Rattle.sheets.specs.Pieces.{Printed};
+ghost use Rattle.moments.specs.Lent.{lent};
 ghost use Rattle.print.specs.Sheet.{sheetText, Began, Space};
 use input::read_floor;
 use libc::STDERR_FILENO;
@@ -11,11 +12,15 @@ use sheets::pair;
 use sheets::pieces::Sent;
 use sheets::pieces::send;
 use sheets::pieces::write_rows;
+use supports::SUPPORT;
 use tables::places::record_count;
 use tables::write::WIDTH;
 
 // The table of the largest floor, 12 by 12 bays: 312 records.
 const LARGEST: usize = 312 * WIDTH;
+
+// And its governing negatives, of 338 supports, which are not printed.
+const SUPPORTS: usize = 338 * SUPPORT;
 
 // Where the first line ends, and how many records follow.
 struct Start {
@@ -24,11 +29,11 @@ struct Start {
 }
 
 // Opens the floor, and writes the first line to out.
-fn begin(floor: &[u8], table: &mut [u32], out: &mut [u8]) -> Start
+fn begin(floor: &[u8], table: &mut [u32], governing: &mut [u32], out: &mut [u8]) -> Start
     requires { ⌜ Line (now out) ⌝ }
-    ensures { λ r. ⌜ Began (now (floor .entry)) (now (table .entry)) (now (out .entry)) r (now (table .exit)) (now (out .exit)) ⌝ }
+    ensures { λ r. ⌜ Began (now (floor .entry)) (lent (now (table .entry)) (now (governing .entry))) (now (out .entry)) r (lent (now (table .exit)) (now (governing .exit))) (now (out .exit)) ⌝ }
 {
-    let answer = moments::open(floor, table);
+    let answer = moments::open(floor, table, governing);
     let end = pair(answer.refusal, answer.value, out);
     if answer.value != 0 {
         return Start {
@@ -43,12 +48,12 @@ fn begin(floor: &[u8], table: &mut [u32], out: &mut [u8]) -> Start
 }
 
 // Prints a floor. Where a write fails, nothing is written after it.
-fn sheet(floor: &[u8], table: &mut [u32]) -> Sent
-    requires { ⌜ Space (now table) ⌝ }
-    ensures { λ r. ⌜ Printed (sheetText (now (floor .entry)) (now (table .entry))) r ⌝ }
+fn sheet(floor: &[u8], table: &mut [u32], governing: &mut [u32]) -> Sent
+    requires { ⌜ Space (now table) (now governing) ⌝ }
+    ensures { λ r. ⌜ Printed (sheetText (now (floor .entry)) (lent (now (table .entry)) (now (governing .entry)))) r ⌝ }
 {
     let mut out = [0u8; 22];
-    let start = begin(floor, table, &mut out);
+    let start = begin(floor, table, governing, &mut out);
     let end = start.end;
     let records = start.records as usize;
     let first = send(&out[..end]);
@@ -65,7 +70,8 @@ fn sheet(floor: &[u8], table: &mut [u32]) -> Sent
 // Prints a floor, and answers whether all of its sheet was taken.
 fn show(floor: &[u8]) -> bool {
     let mut table = [0u32; LARGEST];
-    let sent = sheet(floor, &mut table);
+    let mut governing = [0u32; SUPPORTS];
+    let sent = sheet(floor, &mut table, &mut governing);
     sent.whole
 }
 

@@ -14,6 +14,7 @@ use Rattle.numbers.specs.Tests.{Says}
 use Rattle.numbers.proofs.Written.{in-range}
 use Rattle.numbers.proofs.Tests.{says-and, says-or, says-eq, says-le, says-lt, says-as, by-test}
 use Rattle.plan.specs.declared.ways.Way.{Way}
+use Rattle.plan.specs.Ways.{spanKind}
 use Rattle.plan.specs.Plan.{bays, lastLine, many}
 use Rattle.plan.proofs.Directions.{span-count}
 use Rattle.tables.specs.declared.named.Spans.{Spans}
@@ -25,10 +26,10 @@ use Rattle.tables.proofs.Naming.{at-loads, at-own-span, at-span-across,
 use Rattle.tables.proofs.Numbered.{place-inside, number-place}
 
 -- span s is one of these
-abbrev Of : Spans → ℕ → Type 0
+abbrev pub Of : Spans → ℕ → Type 0
 Of r s = (r .from ≤ s) × (s < r .to)
 
-says-among : (r : Spans) (s : ℕ) → Says (among r s) (Of r s)
+pub says-among : (r : Spans) (s : ℕ) → Says (among r s) (Of r s)
 says-among r s = says-and (says-le (r .from) s) (says-lt s (r .to))
 
 says-beside : (l i : ℕ) → Says (eqb l i || eqb l (i + 1)) ((l ≡ i) ⊎ (l ≡ i + 1))
@@ -41,6 +42,11 @@ of-whole {P = P} n s q = by-test (λ (r : Spans). Of r s → P) q (λ p h. p) (�
 -- and of a named line every span is
 whole-of : {b : Bool} {P : Type 0} (n s : ℕ) → Says b P → P → s < n → Of (wholeIf b n) s
 whole-of n s q p h = rw (q .passes p) (omega arith, h)
+
+-- the spans named of a line of n spans are spans of it, if a span that is named by its number is
+pub named-most : (kind index : ℕ) (d : Way) (l n : ℕ) → (kind ≡ spanKind d → index < n) → 1 ≤ n → namedSpans kind index d l n .to ≤ n
+named-most kind index d l n there some =
+    by-spans kind index l n d (λ (r : Spans). r .to ≤ n) (omega arith) (λ e. omega (arith, there e)) (omega arith) (omega arith) (omega arith)
 
 module _ (f : List ℕ) (kind index : ℕ) where
   module _ {p : Place} (h : Inside f p) where
@@ -93,11 +99,13 @@ module _ (f : List ℕ) (kind index : ℕ) where
   named-line d l s hl hs =
       ap (λ (p : Place). named f kind index p) (number-place f {p = record { way = d; line = l; span = s }} (record { line = hl; span = hs }))
 
+  -- a record of a span that the floor has is of one of its spans
+  pub span-there : index < many f kind → (d : Way) → kind ≡ spanKind d → index < bays f d
+  span-there h d e = omega (arith, h, ap (λ (k : ℕ). many f k) e, span-count f d)
+
   -- the spans named of a line are spans of it
   pub to-most : (d : Way) (l : ℕ) → index < many f kind → 1 ≤ bays f d → namedSpans kind index d l (bays f d) .to ≤ bays f d
-  to-most d l h some =
-      by-spans kind index l (bays f d) d (λ (r : Spans). r .to ≤ bays f d) (omega arith)
-      (λ e. omega (arith, h, ap (λ (k : ℕ). many f k) e, span-count f d)) (omega arith) (omega arith) (omega arith)
+  to-most d l h some = named-most kind index d l (bays f d) (span-there h d) some
 
   -- so of a line, the named records written are every record of one stretch
   pub line-written : (w : ℕ) (g : ℕ → List ℕ) (d : Way) (l : ℕ) (t : List ℕ) → l ≤ lastLine f d → index < many f kind → 1 ≤ bays f d

@@ -16,6 +16,32 @@ pub record Place : Type 0 where
   pub line : ℕ
   pub span : ℕ
 
+-- ---- things in lines, each line with as many as the others of its direction: along d, n d of them on each of the lines 0 to last d
+
+-- with which those along d start: x frames come first, then y frames
+abbrev pub startIn : (Way → ℕ) → (Way → ℕ) → Way → ℕ
+startIn n last X = 0
+startIn n last Y = (last X + 1) * n X
+
+abbrev pub countIn : (Way → ℕ) → (Way → ℕ) → ℕ
+countIn n last = startIn n last Y + (last Y + 1) * n Y
+
+-- which of them, counted from 0, stands at a place, and the place of one
+abbrev pub rankIn : (Way → ℕ) → (Way → ℕ) → Place → ℕ
+rankIn n last p = startIn n last (p .way) + p .line * n (p .way) + p .span
+
+abbrev pub inWay : Way → ℕ → ℕ → Place
+inWay d n k = record { way = d; line = k / n; span = k % n }
+
+abbrev pub placeIn : (Way → ℕ) → (Way → ℕ) → ℕ → Place
+placeIn n last k = cond (ltb k (startIn n last Y)) (inWay X (n X) k) (inWay Y (n Y) (k - startIn n last Y))
+
+pub record InsideOf (n last : Way → ℕ) (p : Place) : Type 0 where
+  pub line : p .line ≤ last (p .way)
+  pub span : p .span < n (p .way)
+
+-- ---- the spans of a floor
+
 -- one that the floor has
 pub record Inside (f : List ℕ) (p : Place) : Type 0 where
   pub line : p .line ≤ lastLine f (p .way)
@@ -37,18 +63,14 @@ abbrev pub lineFirstIn : Bays → Way → ℕ → ℕ
 lineFirstIn b d l = firstIn b d + l * pick d (b .x) (b .y)
 
 abbrev pub firstOf : List ℕ → Way → ℕ
-firstOf f d = firstIn (baysOf f) d
+firstOf f d = startIn (bays f) (lastLine f) d
 
 abbrev pub lineFirst : List ℕ → Way → ℕ → ℕ
 lineFirst f d l = firstOf f d + l * bays f d
 
--- the record of a span
+-- the record of a span, and the span of a record
 abbrev pub numberOf : List ℕ → Place → ℕ
-numberOf f p = lineFirst f (p .way) (p .line) + p .span
-
--- and the span of a record
-abbrev pub inWay : Way → ℕ → ℕ → Place
-inWay d n k = record { way = d; line = k / n; span = k % n }
+numberOf f p = rankIn (bays f) (lastLine f) p
 
 unfoldable pub placeOf : List ℕ → ℕ → Place
-placeOf f k = cond (ltb k (firstOf f Y)) (inWay X (bays f X) k) (inWay Y (bays f Y) (k - firstOf f Y))
+placeOf f k = placeIn (bays f) (lastLine f) k

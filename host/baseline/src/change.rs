@@ -2,34 +2,40 @@
 
 use crate::file::{self, fields, RECORD};
 use crate::floor::{Floor, X, Y};
-use crate::frames::{fill, Spans};
+use crate::frames::Spans;
 use crate::judge::judge;
 use crate::lines::Stiffness;
-use crate::records;
 use crate::verdict::verdict;
+use crate::Lent;
 
-/// "A change tries 1 to 7 on the held floor, 9, then 5 to 7 on the changed floor, then 8"
-pub fn changed(bytes: &mut [u8], table: &mut [u32], change: &[u8]) -> Result<u32, u32> {
+/// "A change tries 1 to 7 on the held floor, 9, then 5 to 7 on the changed floor, then 8", and 13 right after
+/// it.
+pub fn changed(
+    bytes: &mut [u8],
+    table: &mut [u32],
+    governing: &mut [u32],
+    change: &[u8],
+) -> Result<u32, u32> {
     let held = file::read(bytes)?;
     let held_layout = judge(&held)?;
     let mut floor = held;
     let (kind, index) = put(&mut floor, change).ok_or(9u32)?;
     let layout = judge(&floor)?;
-    let table = records(&floor, table)?;
+    let lent = Lent::of(&floor, table, governing)?;
     let before = verdict(&held, held_layout, &Stiffness::of(&held));
     let stiffness = Stiffness::of(&floor);
     let after = verdict(&floor, layout, &stiffness);
     bytes[position(&floor, kind, index)..][..RECORD].copy_from_slice(change);
     // "If the verdict before or after is not 0, the whole table is written."
     if after != 0 {
-        table.fill([0; 16]);
+        lent.clear();
     } else {
         let spans = if before != 0 {
             Spans::All
         } else {
             named(kind, index)
         };
-        fill(table, &floor, layout, &stiffness, spans);
+        lent.fill(&floor, layout, &stiffness, spans);
     }
     Ok(after)
 }

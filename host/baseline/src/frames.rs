@@ -26,7 +26,7 @@ pub enum Spans {
 
 impl Spans {
     /// Those of one line.
-    fn of(self, floor: &Floor, way: usize, line: usize) -> Range<usize> {
+    pub fn of(self, floor: &Floor, way: usize, line: usize) -> Range<usize> {
         let bays = floor.bays[way];
         match self {
             Spans::All => 0..bays,

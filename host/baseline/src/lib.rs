@@ -1,4 +1,5 @@
-//! The rules of 01 in plain Rust, written for speed: what the proved library is timed against.
+//! The rules of 01, and request One of 02, in plain Rust written for speed: what the proved library is timed
+//! against.
 //!
 //! The four calls are the library's. Each reads the floor's bytes once into fixed arrays and works from
 //! these; nothing is kept between calls. Every number of 01 fits 64 bits.
@@ -7,6 +8,7 @@ mod change;
 mod file;
 mod floor;
 mod frames;
+mod governing;
 mod judge;
 mod lines;
 mod steel;
@@ -17,7 +19,8 @@ mod verdict;
 pub use steel::{steel, Query};
 
 use floor::Floor;
-use frames::{fill, Spans};
+use frames::Spans;
+use judge::Layout;
 use lines::Stiffness;
 use verdict::verdict;
 
@@ -43,34 +46,58 @@ impl Answer {
     }
 }
 
-/// 8: "lent table shorter than 16·((ny+1)nx+(nx+1)ny) numbers"
-fn records<'a>(floor: &Floor, table: &'a mut [u32]) -> Result<&'a mut [[u32; 16]], u32> {
-    let (records, _) = table.as_chunks_mut();
-    records.get_mut(..floor.records()).ok_or(8)
+/// The records and the supports of a floor, in the slices that are lent.
+struct Lent<'a> {
+    table: &'a mut [[u32; 16]],
+    governing: &'a mut [[u32; 5]],
 }
 
-/// Opens a floor and fills its table.
-pub fn open(floor: &[u8], table: &mut [u32]) -> Answer {
-    Answer::of(opened(floor, table), REFUSED)
+impl<'a> Lent<'a> {
+    fn of(floor: &Floor, table: &'a mut [u32], governing: &'a mut [u32]) -> Result<Lent<'a>, u32> {
+        let (records, _) = table.as_chunks_mut();
+        let (supports, _) = governing.as_chunks_mut();
+        Ok(Lent {
+            // 8: "lent table shorter than 16·((ny+1)nx+(nx+1)ny) numbers"
+            table: records.get_mut(..floor.records()).ok_or(8u32)?,
+            // 13: "the slice is too short, tried right after 8"
+            governing: supports.get_mut(..2 * floor.columns()).ok_or(13u32)?,
+        })
+    }
+
+    /// "Verdict not 0: all of them are 0."
+    fn clear(self) {
+        self.table.fill([0; 16]);
+        self.governing.fill([0; 5]);
+    }
+
+    fn fill(self, floor: &Floor, layout: Layout, stiffness: &Stiffness, spans: Spans) {
+        frames::fill(self.table, floor, layout, stiffness, spans);
+        governing::fill(self.governing, self.table, floor, spans);
+    }
 }
 
-fn opened(bytes: &[u8], table: &mut [u32]) -> Result<u32, u32> {
+/// Opens a floor and fills its table, and the governing moments beside it.
+pub fn open(floor: &[u8], table: &mut [u32], governing: &mut [u32]) -> Answer {
+    Answer::of(opened(floor, table, governing), REFUSED)
+}
+
+fn opened(bytes: &[u8], table: &mut [u32], governing: &mut [u32]) -> Result<u32, u32> {
     let floor = file::read(bytes)?;
     let layout = judge::judge(&floor)?;
-    let table = records(&floor, table)?;
+    let lent = Lent::of(&floor, table, governing)?;
     let stiffness = Stiffness::of(&floor);
     let verdict = verdict(&floor, layout, &stiffness);
     if verdict == 0 {
-        fill(table, &floor, layout, &stiffness, Spans::All);
+        lent.fill(&floor, layout, &stiffness, Spans::All);
     } else {
-        table.fill([0; 16]);
+        lent.clear();
     }
     Ok(verdict)
 }
 
-/// Changes one record of a floor, and its table with it.
-pub fn change(floor: &mut [u8], table: &mut [u32], change: &[u8]) -> Answer {
-    Answer::of(change::changed(floor, table, change), REFUSED)
+/// Changes one record of a floor, and with it its table and the governing moments.
+pub fn change(floor: &mut [u8], table: &mut [u32], governing: &mut [u32], change: &[u8]) -> Answer {
+    Answer::of(change::changed(floor, table, governing, change), REFUSED)
 }
 
 /// The least thickness of the panel of x bay `x` and y bay `y`.

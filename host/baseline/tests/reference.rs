@@ -1,4 +1,4 @@
-//! The baseline held to the reference: every answer, and all that is left in floor and table.
+//! The baseline held to the reference: every answer, and all that is left in floor, table and slice.
 
 use baseline::Answer;
 use cases::draw::Draw;
@@ -16,16 +16,25 @@ fn answer(given: Answer) -> (u128, u128) {
 
 fn played(run: &Run) -> Played {
     let (mut floor, mut table) = (run.floor.clone(), run.table.clone());
+    let mut governing = run.governing.clone();
     let opening = run
         .opens
-        .then(|| answer(baseline::open(&floor, &mut table)));
+        .then(|| answer(baseline::open(&floor, &mut table, &mut governing)));
     let changes = run.changes.iter();
-    let changes = changes.map(|change| answer(baseline::change(&mut floor, &mut table, change)));
+    let changes = changes.map(|change| {
+        answer(baseline::change(
+            &mut floor,
+            &mut table,
+            &mut governing,
+            change,
+        ))
+    });
     Played {
         opening,
         changes: changes.collect(),
         floor,
         table,
+        governing,
     }
 }
 
@@ -33,14 +42,15 @@ fn hold_run(run: &Run) {
     assert!(played(run) == play(run), "{}", run.description);
 }
 
-/// Opens a floor on a table of numbers that none of its records has, then leaves it as it is. 12 by 12
-/// bays ask for 4,992.
+/// Opens a floor on a table and a slice of numbers that none of its records has, then leaves it as it is. 12
+/// by 12 bays ask for 4,992 and 1,690.
 fn opening(description: &str, floor: &[u8]) -> Run {
     Run {
         description: description.to_string(),
         opens: true,
         floor: floor.to_vec(),
         table: vec![u32::MAX; 5_000],
+        governing: vec![u32::MAX; 1_700],
         changes: Vec::new(),
     }
 }

@@ -10,24 +10,31 @@ const BATCHES: usize = 101;
 /// Short, so that most batches run without a break where others use the machine too.
 const BATCH: Duration = Duration::from_micros(200);
 
-/// Room for the largest table.
+/// Room for the largest table, and for the governing moments beside it.
 const TABLE: usize = 4_992;
+const GOVERNING: usize = 1_690;
 
-/// The floor and the table that one product is lent.
+/// The floor, the table and the slice that one product is lent.
 #[derive(Clone, PartialEq, Eq, Debug)]
 struct Lent {
     floor: Vec<u8>,
     table: Vec<u32>,
+    governing: Vec<u32>,
 }
 
 /// Makes two calls, so that an operation by turns is back where it was.
 fn twice<P: Product>(lent: &mut Lent, work: &Work) -> [Answer; 2] {
-    let Lent { floor, table } = lent;
+    let Lent {
+        floor,
+        table,
+        governing,
+    } = lent;
     let mut call = |turn: usize| match work {
-        Work::Open => P::open(black_box(floor), black_box(table)),
+        Work::Open => P::open(black_box(floor), black_box(table), black_box(governing)),
         Work::Turns(changes) => P::change(
             black_box(floor),
             black_box(table),
+            black_box(governing),
             black_box(&changes[turn]),
         ),
         Work::Again {
@@ -36,7 +43,12 @@ fn twice<P: Product>(lent: &mut Lent, work: &Work) -> [Answer; 2] {
             place,
         } => {
             floor[*place..place + held.len()].copy_from_slice(held);
-            P::change(black_box(floor), black_box(table), black_box(change))
+            P::change(
+                black_box(floor),
+                black_box(table),
+                black_box(governing),
+                black_box(change),
+            )
         }
         Work::Panel(x, y) => P::panel(black_box(floor), black_box(*x), black_box(*y)),
         Work::Steel(query) => P::steel(black_box(*query)),
@@ -70,7 +82,7 @@ pub struct Times {
     pub baseline: f64,
 }
 
-/// Both give the answers, the floor and the table that the other gives, and the answer that the operation names.
+/// Both give the answers, the floor, the table and the slice that the other gives, and the answer that the operation names.
 fn same(operation: &Operation, lent: &Lent) {
     let (mut ours, mut baseline) = (lent.clone(), lent.clone());
     for _ in 0..2 {
@@ -84,7 +96,7 @@ fn same(operation: &Operation, lent: &Lent) {
         );
         assert!(
             ours == baseline,
-            "{}: floors and tables differ",
+            "{}: floors, tables or slices differ",
             operation.name
         );
     }
@@ -94,6 +106,7 @@ pub fn time(operation: &Operation) -> Times {
     let lent = Lent {
         floor: operation.floor.clone(),
         table: vec![u32::MAX; TABLE],
+        governing: vec![u32::MAX; GOVERNING],
     };
     same(operation, &lent);
     let (mut ours, mut baseline) = (lent.clone(), lent);

@@ -7,8 +7,8 @@ pub type Answer = (u32, u32);
 pub type Query = [u64; 6];
 
 pub trait Product {
-    fn open(floor: &[u8], table: &mut [u32]) -> Answer;
-    fn change(floor: &mut [u8], table: &mut [u32], change: &[u8]) -> Answer;
+    fn open(floor: &[u8], table: &mut [u32], governing: &mut [u32]) -> Answer;
+    fn change(floor: &mut [u8], table: &mut [u32], governing: &mut [u32], change: &[u8]) -> Answer;
     fn panel(floor: &[u8], x: u64, y: u64) -> Answer;
     fn steel(query: Query) -> Answer;
 }
@@ -18,13 +18,18 @@ macro_rules! product {
         pub struct $name;
 
         impl Product for $name {
-            fn open(floor: &[u8], table: &mut [u32]) -> Answer {
-                let answer = $library::open(floor, table);
+            fn open(floor: &[u8], table: &mut [u32], governing: &mut [u32]) -> Answer {
+                let answer = $library::open(floor, table, governing);
                 (answer.refusal, answer.value)
             }
 
-            fn change(floor: &mut [u8], table: &mut [u32], change: &[u8]) -> Answer {
-                let answer = $library::change(floor, table, change);
+            fn change(
+                floor: &mut [u8],
+                table: &mut [u32],
+                governing: &mut [u32],
+                change: &[u8],
+            ) -> Answer {
+                let answer = $library::change(floor, table, governing, change);
                 (answer.refusal, answer.value)
             }
 

@@ -7,6 +7,7 @@ pub mod long;
 pub mod refused;
 pub mod small;
 mod spoilt;
+pub mod tied;
 
 use crate::draw::Draw;
 use drawn::Wanted;
@@ -44,6 +45,7 @@ pub fn all() -> Vec<Described> {
         small::floors(),
         edges::floors(),
         spoilt::floors(),
+        tied::floors(),
         refused::floors(),
     ]
     .into_iter()

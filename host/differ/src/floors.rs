@@ -1,4 +1,4 @@
-//! Floors, each opened on a lent table of any numbers and asked for every panel.
+//! Floors, each opened on a lent table and a governing slice of any numbers, and asked for every panel.
 
 mod damage;
 mod drawn;
@@ -13,16 +13,16 @@ use crate::panels;
 use crate::same::{hex, same_answer};
 use crate::tally::{Counts, Opened, Tally};
 use cases::draw::Draw;
-use cases::floors::LAYOUTS;
+use cases::floors::{tied, LAYOUTS};
 use cases::runs::tables::any_numbers;
 use reference::floor_file::{records_of_kind, sizes, Sizes};
 use reference::layout::layout;
 use reference::opening::open;
 use reference::refusals::{refusal, SUCCESS};
-use reference::table::length;
+use reference::{governing, span, table};
 
-/// Floors in a case: as drawn, at the edge of a limit, past it, damaged.
-pub const FLOORS: u64 = 4 + 1 + 1 + 2;
+/// Floors in a case: as drawn, at the edge of a limit, past it, with a tie, damaged.
+pub const FLOORS: u64 = 4 + 1 + 1 + 1 + 2;
 
 pub fn case(case: &mut Case) -> Result<(), String> {
     let drawn: [_; 4] = std::array::from_fn(|_| floor(&mut case.draw));
@@ -32,6 +32,8 @@ pub fn case(case: &mut Case) -> Result<(), String> {
     let (limit, at, past) = edges::edge(&mut case.draw, &drawn[0]);
     undamaged(case, &format!("at the edge, {limit}"), &at.bytes())?;
     undamaged(case, &format!("past the edge, {limit}"), &past.bytes())?;
+    let tied = tied::floor(&mut case.draw);
+    undamaged(case, "with a tie", &tied.bytes())?;
     for floor in &drawn[2..] {
         let (words, bytes) = damaged(&mut case.draw, &floor.bytes());
         spoilt(case, words, &bytes)?;
@@ -39,19 +41,32 @@ pub fn case(case: &mut Case) -> Result<(), String> {
     Ok(())
 }
 
-/// Any numbers: mostly as many as the floor asks for and a tail of some more, now and then too few.
-pub fn lent_table(draw: &mut Draw, floor: &[u8]) -> Vec<u32> {
-    let asked = match refusal(floor) {
-        SUCCESS => length(sizes(floor)),
-        _ => draw.between(0, 600),
+/// A table and a governing slice of any numbers: mostly as many as the floor asks for and a tail of some
+/// more, now and then too few in one of them or in both.
+pub fn lent_numbers(draw: &mut Draw, floor: &[u8]) -> (Vec<u32>, Vec<u32>) {
+    let (spans, supports) = match refusal(floor) {
+        SUCCESS => (table::length(sizes(floor)), governing::length(sizes(floor))),
+        _ => (draw.between(0, 600), draw.between(0, 300)),
     };
+    let short = match draw.between(1, 100) {
+        1..=2 => (true, false),
+        3..=4 => (true, true),
+        5..=8 => (false, true),
+        _ => (false, false),
+    };
+    let of_table = lent_length(draw, spans, span::NUMBERS, short.0);
+    let of_slice = lent_length(draw, supports, governing::NUMBERS, short.1);
+    (any_numbers(draw, of_table), any_numbers(draw, of_slice))
+}
+
+/// How many numbers are lent where so many are asked for, in records of so many.
+fn lent_length(draw: &mut Draw, asked: usize, in_a_record: usize, short: bool) -> usize {
     let less = |numbers| asked.saturating_sub(numbers);
-    let count = match draw.between(1, 100) {
-        1..=4 => draw.one_of(&[0, 1, asked / 2, less(16), less(1)]),
-        5..=20 => asked,
+    match draw.between(1, 100) {
+        _ if short => draw.one_of(&[0, 1, asked / 2, less(in_a_record), less(1)]),
+        1..=16 => asked,
         _ => asked + draw.between(1, 40),
-    };
-    any_numbers(draw, count)
+    }
 }
 
 pub fn undamaged(case: &mut Case, words: &str, floor: &[u8]) -> Result<(), String> {
@@ -68,19 +83,22 @@ pub fn spoilt(case: &mut Case, words: &str, floor: &[u8]) -> Result<(), String> 
 }
 
 fn compare(case: &mut Case, words: &str, floor: &[u8]) -> Result<Opened, String> {
-    let mut expected = lent_table(&mut case.draw, floor);
+    let (mut right_table, mut right_slice) = lent_numbers(&mut case.draw, floor);
     let lent = case.lend(floor);
-    let mut table = case.lend(&expected);
-    let answer = (case.job.calls.open)(lent.numbers(), table.numbers_mut());
-    let right = open(floor, &mut expected);
+    let (mut table, mut slice) = (case.lend(&right_table), case.lend(&right_slice));
+    let open_call = case.job.calls.open;
+    let answer = open_call(lent.numbers(), table.numbers_mut(), slice.numbers_mut());
+    let right = open(floor, &mut right_table, &mut right_slice);
     same_answer(answer, right)
         .and_then(|()| lent.holds("floor", floor))
-        .and_then(|()| table.holds("table", &expected))
+        .and_then(|()| table.holds("table", &right_table))
+        .and_then(|()| slice.holds("governing", &right_slice))
         .map_err(|words| format!("opening: {words}"))
         .and_then(|()| panels::compare(case, floor, &lent))
         .map_err(|error| format!("floor {words}: {error}\n{}", hex(floor)))?;
     case.tally.floor_addresses.add(lent.address());
     case.tally.table_addresses.add(table.address());
+    case.tally.governing_addresses.add(slice.address());
     Ok(counted(case.tally, floor, right))
 }
 

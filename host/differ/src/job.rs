@@ -4,11 +4,15 @@ use crate::lent::Room;
 use cases::draw::Draw;
 use gandhrumil::{Answer, Query};
 
+/// On a floor, a table and a governing slice.
+pub type Open = fn(&[u8], &mut [u32], &mut [u32]) -> Answer;
+pub type Change = fn(&mut [u8], &mut [u32], &mut [u32], &[u8]) -> Answer;
+
 /// The four calls, which a test may put wrong ones in place of.
 #[derive(Clone, Copy)]
 pub struct Calls {
-    pub open: fn(&[u8], &mut [u32]) -> Answer,
-    pub change: fn(&mut [u8], &mut [u32], &[u8]) -> Answer,
+    pub open: Open,
+    pub change: Change,
     pub panel: fn(&[u8], u64, u64) -> Answer,
     pub steel: fn(Query) -> Answer,
 }

@@ -27,7 +27,7 @@ impl Room {
     }
 }
 
-/// What buffers are made of: bytes, or the table's numbers.
+/// What buffers are made of: bytes, or the numbers of a table or a slice.
 pub trait Number: Copy + Debug + PartialEq {
     fn any(draw: &mut Draw) -> Self;
 }

@@ -1,6 +1,6 @@
 //! The counts in words.
 
-use crate::tally::{Counts, Opened, Step, Tally};
+use crate::tally::{Before, Counts, Opened, Step, Tally};
 use std::fmt::Display;
 
 /// 1234567 as 1,234,567.
@@ -82,21 +82,30 @@ fn changes(tally: &Tally) -> String {
         Step::Refused(number) => *number,
         _ => 0,
     });
-    let wrong = |(_, right): &(u16, bool)| u128::from(!right);
-    let kept_on_wrong = self::refused(&tally.kept_clear, wrong).total();
+    let kept_clear = |meant: fn(&Before) -> bool| {
+        let counts = tally.kept_clear.sum(|(_, before)| meant(before));
+        grouped(counts)
+    };
+    let before = |meant: fn(&Before) -> bool| grouped(tally.before.sum(meant));
     format!(
-        "changes: {}\n  taken: {} from clear to clear ({} of them on wrong tables), {} into a broken verdict, {} out of one, {} between two\n  \
-         refused: {} ({})\n  on right tables: {}, on wrong tables: {}\n",
+        "changes: {}\n  taken: {} from clear to clear ({} of them on wrong tables, {} on slices that do not agree with the table, {} with ties), \
+         {} into a broken verdict, {} out of one, {} between two\n  \
+         refused: {} ({})\n  on right tables: {}, on wrong tables: {}\n  \
+         on slices that agree with the table: {}, on slices that do not: {}\n",
         grouped(steps.total()),
         grouped(steps.of(&Step::KeptClear)),
-        grouped(kept_on_wrong),
+        kept_clear(|before| !before.table_is_right),
+        kept_clear(|before| !before.slice_agrees),
+        kept_clear(|before| before.ties),
         grouped(steps.of(&Step::Broke)),
         grouped(steps.of(&Step::Mended)),
         grouped(steps.of(&Step::StayedBroken)),
         grouped(refused.total()),
         listed(&refused),
-        grouped(tally.on_right_table.of(&true)),
-        grouped(tally.on_right_table.of(&false)),
+        before(|before| before.table_is_right),
+        before(|before| !before.table_is_right),
+        before(|before| before.slice_agrees),
+        before(|before| !before.slice_agrees),
     )
 }
 

@@ -1,10 +1,10 @@
-//! Runs of changes: a floor and its lent table, changed again and again.
+//! Runs of changes: a floor, its lent table and its governing slice, changed again and again.
 
 mod held;
 mod walk;
 
 use crate::case::Case;
-use crate::floors::{damaged, floor, lent_table};
+use crate::floors::{damaged, floor, lent_numbers};
 use crate::same::hex;
 use cases::draw::Draw;
 use cases::runs::Run;
@@ -31,7 +31,7 @@ pub fn case(case: &mut Case) -> Result<(), String> {
         if !opens && case.draw.percent(35) {
             held.spoil(case);
         }
-        next_change(case, &mut held, &mut walk)?;
+        next_change(case, &mut held, &mut walk, !opens)?;
     }
     held.panels(case)?;
     changes_after_damage(case, &held.floor)
@@ -43,14 +43,15 @@ fn changes_after_damage(case: &mut Case, floor: &[u8]) -> Result<(), String> {
     let mut held = on_any_numbers(case, bytes);
     let mut walk = Walk::default();
     for _ in 0..AFTER_DAMAGE {
-        next_change(case, &mut held, &mut walk)?;
+        next_change(case, &mut held, &mut walk, true)?;
     }
     Ok(())
 }
 
-/// A run that is described, with the table that it has.
+/// A run that is described, with the table and the slice that it has.
 pub fn replay(case: &mut Case, run: &Run) -> Result<(), String> {
-    let mut held = Held::new(case, run.floor.clone(), run.table.clone());
+    let (table, governing) = (run.table.clone(), run.governing.clone());
+    let mut held = Held::new(case, run.floor.clone(), table, governing);
     if run.opens {
         held.open(case)?;
     }
@@ -61,8 +62,8 @@ pub fn replay(case: &mut Case, run: &Run) -> Result<(), String> {
 }
 
 fn on_any_numbers(case: &mut Case, floor: Vec<u8>) -> Held {
-    let table = lent_table(&mut case.draw, &floor);
-    Held::new(case, floor, table)
+    let (table, governing) = lent_numbers(&mut case.draw, &floor);
+    Held::new(case, floor, table, governing)
 }
 
 /// Now and then with a thicker slab, so that there is room for longer spans.
@@ -83,8 +84,17 @@ fn floor_to_draw_for(held: &Held) -> Vec<u8> {
     }
 }
 
-fn next_change(case: &mut Case, held: &mut Held, walk: &mut Walk) -> Result<(), String> {
+/// Where the table may be spoilt, the change now and then makes ties.
+fn next_change(
+    case: &mut Case,
+    held: &mut Held,
+    walk: &mut Walk,
+    spoils: bool,
+) -> Result<(), String> {
     let change = walk.next(&mut case.draw, &floor_to_draw_for(held), held.verdict);
+    if spoils && case.draw.percent(10) {
+        held.plant_ties(case, &change);
+    }
     let (floor, before) = (held.floor.clone(), held.verdict);
     if compare(case, held, &change)? {
         walk.taken(&floor, &change, (before, held.verdict));

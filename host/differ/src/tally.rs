@@ -33,6 +33,12 @@ impl<K: Ord> Counts<K> {
         self.0.values().sum()
     }
 
+    /// How many there were of those that are meant.
+    pub fn sum(&self, meant: impl Fn(&K) -> bool) -> u64 {
+        let meant = self.0.iter().filter(|(key, _)| meant(key));
+        meant.map(|(_, count)| count).sum()
+    }
+
     /// How many different ones there were.
     pub fn kinds(&self) -> usize {
         self.0.len()
@@ -67,6 +73,17 @@ pub enum Step {
     Refused(u128),
 }
 
+/// What is lent, before a change.
+#[derive(Clone, Copy, Debug, PartialEq, Eq, PartialOrd, Ord)]
+pub struct Before {
+    /// Whether the table is known to be right.
+    pub table_is_right: bool,
+    /// Whether the governing slice is what the table makes it, right or wrong.
+    pub slice_agrees: bool,
+    /// Whether wrong numbers in the table make ties at supports that the change writes.
+    pub ties: bool,
+}
+
 #[derive(Clone, Debug, Default, PartialEq, Eq)]
 pub struct Tally {
     /// Floors that were drawn, and are as they were drawn or at the edge of a limit.
@@ -81,15 +98,16 @@ pub struct Tally {
     /// Panel queries, by their refusal or 0.
     pub panels: Counts<u128>,
     pub changes: Counts<Step>,
-    /// Of those that kept a clear floor clear: their kind, and whether the table was right before.
-    pub kept_clear: Counts<(u16, bool)>,
-    /// All changes, by whether the table was right before.
-    pub on_right_table: Counts<bool>,
+    /// Of those that kept a clear floor clear: their kind, and what they were made on.
+    pub kept_clear: Counts<(u16, Before)>,
+    /// All changes, by what they were made on.
+    pub before: Counts<Before>,
     /// Steel queries, by their refusal or 0.
     pub steel: Counts<u128>,
     /// Where lent buffers started, from one address that 16 divides to the next.
     pub floor_addresses: Counts<usize>,
     pub table_addresses: Counts<usize>,
+    pub governing_addresses: Counts<usize>,
     pub change_addresses: Counts<usize>,
 }
 
@@ -104,10 +122,11 @@ impl Tally {
         self.panels.merge(other.panels);
         self.changes.merge(other.changes);
         self.kept_clear.merge(other.kept_clear);
-        self.on_right_table.merge(other.on_right_table);
+        self.before.merge(other.before);
         self.steel.merge(other.steel);
         self.floor_addresses.merge(other.floor_addresses);
         self.table_addresses.merge(other.table_addresses);
+        self.governing_addresses.merge(other.governing_addresses);
         self.change_addresses.merge(other.change_addresses);
     }
 

@@ -1,6 +1,6 @@
 //! What a comparison should have met and has not: a generator that decays is noticed.
 
-use crate::tally::{Counts, Opened, Step, Tally};
+use crate::tally::{Before, Counts, Opened, Step, Tally};
 use cases::runs::changes::KINDS;
 use std::collections::BTreeSet;
 
@@ -39,7 +39,10 @@ const LAYOUTS: usize = 3;
 pub fn floors(tally: &Tally) -> Vec<String> {
     let refused = |number| Opened::Refused(number);
     let clear = tally.undamaged.of(&Opened::Clear);
-    let places = (&tally.floor_addresses, &tally.table_addresses);
+    let number_places = [
+        (&tally.table_addresses, "a table at each of 4 addresses"),
+        (&tally.governing_addresses, "a slice at each of 4 addresses"),
+    ];
     [
         unless(
             3 * clear >= 2 * tally.undamaged.total(),
@@ -48,7 +51,7 @@ pub fn floors(tally: &Tally) -> Vec<String> {
         missing(&tally.limits, [1, 2, 4, 8, 16, 32, 64], |limit| {
             format!("a floor that breaks limit {limit}")
         }),
-        missing(&tally.damaged, (1..=8).map(refused), |opened| {
+        missing(&tally.damaged, (1..=8).chain([13]).map(refused), |opened| {
             format!("a damaged floor: {opened:?}")
         }),
         missing(&tally.panels, [0, 1, 2, 3, 4, 5, 6, 7, 10], |number| {
@@ -57,10 +60,36 @@ pub fn floors(tally: &Tally) -> Vec<String> {
         unless(tally.layouts.kinds() == LAYOUTS, "a layout"),
         unless(tally.sides.kinds() == SIDES, "some choice of sides"),
         missing_bays(tally),
-        unless(places.0.kinds() == 16, "a floor at each of 16 addresses"),
-        unless(places.1.kinds() == 4, "a table at each of 4 addresses"),
+        unless(
+            tally.floor_addresses.kinds() == 16,
+            "a floor at each of 16 addresses",
+        ),
+        number_places
+            .map(|(places, words)| unless(places.kinds() == 4, words))
+            .concat(),
     ]
     .concat()
+}
+
+/// What changes that keep a floor clear are to be made on, in words.
+type Meant = (&'static str, fn(&Before) -> bool);
+
+const MEANT: [Meant; 4] = [
+    ("a right table", |before| before.table_is_right),
+    ("a wrong table", |before| !before.table_is_right),
+    ("a slice that agrees", |before| before.slice_agrees),
+    ("a slice that does not", |before| !before.slice_agrees),
+];
+
+fn missing_before(tally: &Tally, kind: u16) -> Vec<String> {
+    let found = |meant: fn(&Before) -> bool| {
+        let found = |(of_kind, before): &(u16, Before)| *of_kind == kind && meant(before);
+        tally.kept_clear.sum(found) > 0
+    };
+    let missing = MEANT.iter().filter(|(_, meant)| !found(*meant));
+    missing
+        .map(|(words, _)| format!("a change of kind {kind} that keeps a floor clear, on {words}"))
+        .collect()
 }
 
 pub fn changes(tally: &Tally) -> Vec<String> {
@@ -70,8 +99,8 @@ pub fn changes(tally: &Tally) -> Vec<String> {
         Step::Mended,
         Step::StayedBroken,
     ];
-    let steps = taken.into_iter().chain((1..=9).map(Step::Refused));
-    let on_both = |kind| [(kind, true), (kind, false)];
+    let refused = (1..=9).chain([13]).map(Step::Refused);
+    let steps = taken.into_iter().chain(refused);
     let kept_clear = tally.changes.of(&Step::KeptClear);
     [
         unless(
@@ -79,14 +108,13 @@ pub fn changes(tally: &Tally) -> Vec<String> {
             "changes that keep a floor clear, one of two",
         ),
         missing(&tally.changes, steps, |step| format!("a change: {step:?}")),
-        missing(
-            &tally.kept_clear,
-            KINDS.into_iter().flat_map(on_both),
-            |(kind, right)| {
-                format!(
-                    "a change of kind {kind} that keeps a floor clear, its table right: {right}"
-                )
-            },
+        KINDS
+            .iter()
+            .flat_map(|&kind| missing_before(tally, kind))
+            .collect(),
+        unless(
+            tally.kept_clear.sum(|(_, before)| before.ties) > 0,
+            "a change that makes a tie",
         ),
         unless(
             tally.change_addresses.kinds() == 16,

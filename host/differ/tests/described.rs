@@ -41,7 +41,7 @@ fn floors_and_inputs_longer_than_any_floor() {
     assert_eq!(tally.floors(), described.len() as u64);
 }
 
-/// Each floor file is opened, with room enough for any table, then changed where a change comes with it.
+/// Each floor file is opened, with room enough for any table and slice, then changed where a change comes with it.
 #[test]
 fn cases_of_every_refusal() {
     let described = cases::refusals::all();
@@ -50,11 +50,13 @@ fn cases_of_every_refusal() {
         |listed| &listed.description,
         |case, listed| {
             let table = any_numbers(&mut case.draw, 5_000);
+            let governing = any_numbers(&mut case.draw, 1_700);
             let run = Run {
                 description: String::new(),
                 opens: true,
                 floor: listed.floor.clone(),
                 table,
+                governing,
                 changes: listed.change.iter().cloned().collect(),
             };
             runs::replay(case, &run)

@@ -72,6 +72,7 @@ fn without_addresses(tally: Tally) -> Tally {
     Tally {
         floor_addresses: Default::default(),
         table_addresses: Default::default(),
+        governing_addresses: Default::default(),
         change_addresses: Default::default(),
         ..tally
     }

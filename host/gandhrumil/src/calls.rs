@@ -14,6 +14,8 @@ extern "C" {
         floor_len: usize,
         table: *mut u32,
         table_len: usize,
+        governing: *mut u32,
+        governing_len: usize,
     ) -> Answer;
 
     pub fn gandhrumil_change(
@@ -21,6 +23,8 @@ extern "C" {
         floor_len: usize,
         table: *mut u32,
         table_len: usize,
+        governing: *mut u32,
+        governing_len: usize,
         change: *const u8,
         change_len: usize,
     ) -> Answer;

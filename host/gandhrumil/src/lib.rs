@@ -7,23 +7,34 @@ mod calls;
 pub use calls::Answer;
 
 /// `GANDHRUMIL_VERSION` of the header whose calls these are (docs/CHANGES.md).
-pub const VERSION: u32 = 1;
+pub const VERSION: u32 = 2;
 
-/// Opens a floor and fills its table.
-pub fn open(floor: &[u8], table: &mut [u32]) -> Answer {
-    // SAFETY: both slices are lent for the call, with their own lengths, and cannot overlap.
-    unsafe { calls::gandhrumil_open(floor.as_ptr(), floor.len(), table.as_mut_ptr(), table.len()) }
+/// Opens a floor and fills its table, and the governing moments beside it.
+pub fn open(floor: &[u8], table: &mut [u32], governing: &mut [u32]) -> Answer {
+    // SAFETY: the three slices are lent for the call, with their own lengths, and cannot overlap.
+    unsafe {
+        calls::gandhrumil_open(
+            floor.as_ptr(),
+            floor.len(),
+            table.as_mut_ptr(),
+            table.len(),
+            governing.as_mut_ptr(),
+            governing.len(),
+        )
+    }
 }
 
-/// Changes one record of a floor, and its table with it.
-pub fn change(floor: &mut [u8], table: &mut [u32], change: &[u8]) -> Answer {
-    // SAFETY: the three slices are lent for the call, with their own lengths, and cannot overlap.
+/// Changes one record of a floor, and with it its table and the governing moments.
+pub fn change(floor: &mut [u8], table: &mut [u32], governing: &mut [u32], change: &[u8]) -> Answer {
+    // SAFETY: the four slices are lent for the call, with their own lengths, and cannot overlap.
     unsafe {
         calls::gandhrumil_change(
             floor.as_mut_ptr(),
             floor.len(),
             table.as_mut_ptr(),
             table.len(),
+            governing.as_mut_ptr(),
+            governing.len(),
             change.as_ptr(),
             change.len(),
         )

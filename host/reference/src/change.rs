@@ -33,7 +33,8 @@ fn changed(floor: &[u8], change: &[u8]) -> Vec<u8> {
 /// "A change tries 1 to 7 on the held floor, 9, then 5 to 7 on the changed floor, then 8: the whole
 /// changed floor is judged in a copy before one byte is stored."
 ///
-/// Answers that copy, or the refusal. Who has a table to lend tries 8 on the copy and stores it then.
+/// Answers that copy, or the refusal. Who has a table and a slice to lend tries 8 and 13 on the copy
+/// and stores it then.
 pub fn judge(floor: &[u8], change: &[u8]) -> Result<Vec<u8>, u128> {
     let held = refusal(floor);
     if held != SUCCESS {

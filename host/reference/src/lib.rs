@@ -1,6 +1,6 @@
-//! The rules of 01 written as plainly as they read.
+//! The rules of 01, and request One of 02, *Later changes to the base*, written as plainly as they read.
 //!
-//! Speed and memory count for nothing here. Each rule stands under the sentence of 01 it follows,
+//! Speed and memory count for nothing here. Each rule stands under the sentence of 01 or 02 it follows,
 //! and every number is a `u128`, or an `i128` where it may fall below 0, far wider than any value of
 //! 01, so no rule needs a word on overflow. The inputs that programs are held against it on are in
 //! `host/cases`.
@@ -8,6 +8,7 @@
 pub mod change;
 pub mod floor_file;
 pub mod frame;
+pub mod governing;
 pub mod held;
 pub mod layout;
 pub mod moments;

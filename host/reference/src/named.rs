@@ -3,12 +3,12 @@
 use crate::floor_file::Sizes;
 use crate::table::{record_count, x_record, y_record};
 
-fn all_of_x_line(sizes: Sizes, line: u128) -> Vec<u128> {
+pub fn all_of_x_line(sizes: Sizes, line: u128) -> Vec<u128> {
     let spans = 0..sizes.nx;
     spans.map(|span| x_record(sizes, line, span)).collect()
 }
 
-fn all_of_y_line(sizes: Sizes, line: u128) -> Vec<u128> {
+pub fn all_of_y_line(sizes: Sizes, line: u128) -> Vec<u128> {
     let spans = 0..sizes.ny;
     spans.map(|span| y_record(sizes, line, span)).collect()
 }

@@ -5,6 +5,9 @@ use floor::Floor;
 /// Sixteen numbers for each of the (ny+1)nx + (nx+1)ny spans of 12 by 12 bays, so that refusal 8 never arises.
 const LARGEST_TABLE: usize = 16 * 2 * 13 * 12;
 
+/// Five numbers for each of the (ny+1)(nx+1) + (nx+1)(ny+1) supports, so that refusal 13 never arises.
+const LARGEST_GOVERNING: usize = 5 * 2 * 13 * 13;
+
 pub enum Judged {
     Refused(u32),
     Accepted(Accepted),
@@ -22,9 +25,10 @@ pub fn refusal(file: &[u8]) -> u32 {
     gandhrumil::panel(file, 0, 0).refusal
 }
 
-/// The table of moments is dropped unread.
+/// The moments, those of the table and the governing ones, are dropped unread.
 pub fn judge(file: &[u8]) -> Judged {
-    let answer = gandhrumil::open(file, &mut [0; LARGEST_TABLE]);
+    let (mut table, mut governing) = ([0; LARGEST_TABLE], [0; LARGEST_GOVERNING]);
+    let answer = gandhrumil::open(file, &mut table, &mut governing);
     if answer.refusal != 0 {
         return Judged::Refused(answer.refusal);
     }

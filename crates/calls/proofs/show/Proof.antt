@@ -8,10 +8,10 @@ use Rattle.calls.proofs.show.Statement.{statement}
 use Rattle.calls.proofs.show.Tie as tie
 
 abbrev Inv-loop : tie.InvT-loop
-Inv-loop floor table i₀ i = i ≤ length floor
+Inv-loop floor table governing i₀ i = i ≤ length floor
 
 abbrev μ-loop : tie.MeasureT-loop
-μ-loop floor table i₀ i = length floor - i
+μ-loop floor table governing i₀ i = length floor - i
 
 pub show-spec : {M : Type 1} → statement M
 show-spec =
@@ -25,5 +25,6 @@ show-spec =
     (λ c. search needs)
     (λ c. search needs)
     (λ c. search needs)
+    (λ c κs. record { some = search needs; fits = search needs; held = omega arith; countable = omega arith })
     (λ c κs. record { some = search needs; fits = search needs; held = omega arith; countable = omega arith })
     (λ c. search needs))

@@ -12,8 +12,9 @@ use Rattle.plan.proofs.Reading.{bays-most}
 use Rattle.tables.specs.Width.{recordWidth}
 use Rattle.tables.specs.Places.{firstOf}
 use Rattle.tables.specs.Named.{namedAt}
+use Rattle.tables.proofs.Runs.{no-line, next-line}
 use Rattle.frames.specs.Table.{recordAt}
-use Rattle.frames.proofs.Frames.{last-is, at-line, no-line, next-line}
+use Rattle.frames.proofs.Frames.{last-is, at-line}
 use Rattle.frames.proofs.write_lines.Statement.{statement}
 use Rattle.frames.proofs.write_lines.Tie as tie
 
@@ -34,7 +35,7 @@ write-lines-spec =
     (λ c κs. search needs)
     (λ c κs. search needs)
     (λ c. let s = c .before .before .before .before in
-    (search needs, last-is _ _ _ _ _ _ (s .args .d) (s .pre) (c .before .across .ensures) (c .along .ensures), no-line _ _ _ _ _ _ (s .args .d) (s .pre), refl))
+    (search needs, last-is _ _ _ _ _ _ (s .args .d) (s .pre) (c .before .across .ensures) (c .along .ensures), no-line (bays (s .args .f .now)) (lastLine (s .args .f .now)) _ _ _ _ (s .args .d), refl))
     (λ c κs. at-line _ _ _ _ _ _ _ (c .before .before .before .before .before .before .before .pre) _ (c .before .before .loop .inv .3) (omega arith))
     (λ c. let s = c .before .before .before .before .before .before .before .before .before .before in omega (arith, bays-most (s .args .f .now) (across (s .args .d))))
     (λ c. search needs)
@@ -42,7 +43,7 @@ write-lines-spec =
     let s = c .before .before .before .before .before .before .before .before .before .before in (
       search needs,
       i .1,
-      c .before .before .write-line .ensures ∙ next-line _ _ _ _ _ _ (s .args .d) (s .pre) (c .before .before .before .before .before .loop .l) (i .2),
+      c .before .before .write-line .ensures ∙ next-line (bays (s .args .f .now)) (lastLine (s .args .f .now)) _ _ _ _ (s .args .d) (c .before .before .before .before .before .loop .l) (i .2),
       search needs,
     ))
     (λ c. search needs)

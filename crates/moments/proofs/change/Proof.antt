@@ -3,7 +3,7 @@
 use borrow.Author.Needs.{needs}
 use Rattle.moments.specs.Lent.{lent}
 use Rattle.moments.proofs.Room.{changing-number}
-use Rattle.moments.proofs.Ways.{changed-refused, changed-takes, changed-placed, changed-settling, changed-taken, remade-table}
+use Rattle.moments.proofs.Ways.{changed-refused, changed-takes, changed-placed, changed-settling, changed-taken, remade-by}
 use Rattle.moments.proofs.change.Statement.{statement}
 use Rattle.moments.proofs.change.Tie as tie
 
@@ -16,16 +16,19 @@ change-spec =
     (λ c κs. search needs)
     (λ c. search needs)
     (λ c. search needs)
-    (λ c. changed-refused _ _ _ (changing-number _ _ (lent _) (c .before .before .before .before .before .judge .ensures) (c .before .before .then-room .ensures)) (c .before .if1 .taken) (c .refused .ensures))
-    (λ c κs. record { accepted = changed-takes _ _ (lent _) (changing-number _ _ (lent _) (c .before .before .before .before .before .judge .ensures) (c .before .before .then-room .ensures)) (c .before .if1 .left) .held })
-    (λ c κs. changed-placed _ _ (lent _) (changing-number _ _ (lent _) (c .before .before .before .before .before .before .before .judge .ensures) (c .before .before .before .before .then-room .ensures)) (c .before .before .before .if1 .left) (c .before .before .before .before .before .before .before .judge .ensures))
+    (λ c. search needs)
+    (λ c. changed-refused _ _ _ (changing-number _ _ (lent _ _) (c .before .before .before .before .before .before .judge .ensures) (c .before .before .then-room .ensures)) (c .before .if1 .taken) (c .refused .ensures))
+    (λ c κs. record { accepted = changed-takes _ _ (lent _ _) (changing-number _ _ (lent _ _) (c .before .before .before .before .before .before .judge .ensures) (c .before .before .then-room .ensures)) (c .before .if1 .left) .held })
+    (λ c κs. changed-placed _ _ (lent _ _) (changing-number _ _ (lent _ _) (c .before .before .before .before .before .before .before .before .judge .ensures) (c .before .before .before .before .then-room .ensures)) (c .before .before .before .if1 .left) (c .before .before .before .before .before .before .before .before .judge .ensures))
     (λ c κs. search needs)
     (λ c κs. search needs)
-    (λ c κs. changed-settling _ _ (lent _) (changing-number _ _ (lent _) (c .before .before .before .before .before .before .before .before .before .before .before .before .before .before .judge .ensures) (c .before .before .before .before .before .before .before .before .before .before .before .then-room .ensures)) (c .before .before .before .before .before .before .before .before .before .before .if1 .left) (c .before .before .before .before .before .before .store .ensures) (c .before .u16-at .ensures) (c .u16-at2 .ensures))
+    (λ c κs. changed-settling _ _ (lent _ _) (changing-number _ _ (lent _ _) (c .before .before .before .before .before .before .before .before .before .before .before .before .before .before .before .before .judge .ensures) (c .before .before .before .before .before .before .before .before .before .before .before .before .then-room .ensures)) (c .before .before .before .before .before .before .before .before .before .before .before .if1 .left) (c .before .before .before .before .before .before .before .store .ensures) (c .before .u16-at .ensures) (c .u16-at2 .ensures))
     (λ c κs. search needs)
     (λ c. search needs)
     (λ c. search needs)
-    (λ c. let a = c .before .before .before .before .before .before .before .before .before .before in
-    changed-taken _ _ _ (changing-number _ _ (lent _) (a .before .before .before .before .before .before .before .before .judge .ensures) (a .before .before .before .before .before .then-room .ensures)) (a .before .before .before .before .if1 .left) (a .store .ensures) (c .before .before .before .settle .ensures .0)
-    (remade-table _ _ _ (a .before .before .verdict .ensures .0) (a .store .ensures) (c .before .before .before .before .before .u16-at .ensures) (c .before .before .before .before .u16-at2 .ensures) (c .before .before .before .settle .ensures .1))
+    (λ c. search needs)
+    (λ c. let settle = c .before .before .before .before .before .settle .ensures in
+    let store = c .before .before .before .before .before .before .before .before .before .before .before .before .before .store .ensures in
+    changed-taken _ _ _ (changing-number _ _ (lent _ _) (c .before .before .before .before .before .before .before .before .before .before .before .before .before .before .before .before .before .before .before .before .before .before .judge .ensures) (c .before .before .before .before .before .before .before .before .before .before .before .before .before .before .before .before .before .before .then-room .ensures)) (c .before .before .before .before .before .before .before .before .before .before .before .before .before .before .before .before .before .if1 .left) store (settle .0)
+    (remade-by _ _ _ (c .before .before .before .before .before .before .before .before .before .before .before .before .before .before .before .verdict .ensures .0) store (c .before .before .before .before .before .before .before .u16-at .ensures) (c .before .before .before .before .before .before .u16-at2 .ensures) (settle .1))
     (c .success .ensures)))

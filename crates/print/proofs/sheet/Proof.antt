@@ -16,7 +16,7 @@ abbrev sending : tie.After-struct-known4 → tie.After-send
 sending c = c .before .before .before .before .before .before
 
 abbrev beginning : tie.After-struct-known4 → tie.After-begin
-beginning c = c .before .before .before .before .before .before .before .before .before .before .before .before
+beginning c = c .before .before .before .before .before .before .before .before .before .before .before .before .before .before
 
 pub sheet-spec : {M : Type 1} → statement M
 sheet-spec =
@@ -25,15 +25,17 @@ sheet-spec =
     (λ c. search needs)
     (λ c κs. search needs)
     (λ c. search needs)
-    (λ c. wrote-counts zero-le (c .before .before .before .before .begin .ensures .first) .0)
-    (λ c. wrote-counts zero-le (c .before .before .before .before .before .begin .ensures .first) .1)
+    (λ c. wrote-counts zero-le (c .before .before .before .before .before .before .begin .ensures .first) .0)
+    (λ c. wrote-counts zero-le (c .before .before .before .before .before .before .before .begin .ensures .first) .1)
     (λ c κs. search needs)
+    (λ c. search needs)
     (λ c. search needs)
     (λ c. cut-off (not-true _ (c .if1 .taken)))
     (λ c κs. search needs)
     (λ c. let start = beginning c .begin .ensures in
     let line = wrote-counts zero-le (start .first) in
     omega (arith, sending c .send .ensures .1, line .0, line .1, start .most, c .before .before .write-rows .ensures .1))
+    (λ c. search needs)
     (λ c. search needs)
     (λ c. let start = beginning c .begin .ensures in
     let taken = not-false _ (c .before .before .before .before .if1 .left) in

@@ -1,7 +1,7 @@
 //! Long runs from clear floors, which break limits and mend them.
 
 use super::changes::{changes, Changing};
-use super::tables::{table, Held};
+use super::tables::{governing, table, HELD};
 use super::Run;
 use crate::draw::Draw;
 use crate::floors::drawn::{self, any_sides, Wanted};
@@ -45,8 +45,6 @@ const LARGE: [(usize, usize); 9] = [
     (12, 10),
 ];
 
-const HELD: [Held; 4] = [Held::Right, Held::SomeWrong, Held::AllWrong, Held::Zeros];
-
 /// A clear floor with any sides, its slab often such that there is room for longer spans.
 pub fn floor(draw: &mut Draw, nx: usize, ny: usize, layout: Layout) -> Vec<u8> {
     loop {
@@ -66,20 +64,24 @@ pub fn floor(draw: &mut Draw, nx: usize, ny: usize, layout: Layout) -> Vec<u8> {
 }
 
 pub fn runs() -> Vec<Run> {
-    let mut draw = Draw::starting_at(11);
+    let (mut draw, mut beside) = (Draw::starting_at(11), Draw::starting_at(21));
     let sizes = SIZES.repeat(6).into_iter().chain(LARGE);
     let mut runs = Vec::new();
     for (number, (nx, ny)) in sizes.enumerate() {
         let (layout, words) = LAYOUTS[number % 3];
-        let held = HELD[number % 4];
+        let (held, held_beside) = (HELD[number % 4], HELD[number / 4 % 4]);
         let opens = number % 5 < 2;
         let tail = draw.between(0, 40);
         let count = draw.between(20, 40);
         let floor = floor(&mut draw, nx, ny, layout);
+        let table = table(&mut draw, &floor, held, tail);
         runs.push(Run {
-            description: format!("long {number}, {nx}x{ny}, {words}, {held:?}, opens {opens}"),
+            description: format!(
+                "long {number}, {nx}x{ny}, {words}, {held:?} and {held_beside:?}, opens {opens}"
+            ),
             opens,
-            table: table(&mut draw, &floor, held, tail),
+            governing: governing(&mut beside, &floor, &table, held_beside, 40 - tail),
+            table,
             changes: changes(&mut draw, Changing::of(&floor), count),
             floor,
         });

@@ -4,7 +4,7 @@
 use super::changes::taken::clear_change_of;
 use super::changes::{changes, Changing};
 use super::clear;
-use super::tables::{table, Held};
+use super::tables::{governing, table, Held};
 use super::Run;
 use crate::draw::Draw;
 use crate::floors::LAYOUTS;
@@ -16,7 +16,7 @@ pub fn runs() -> Vec<Run> {
 
 /// A single change of the first record of a kind, one inside, the last.
 fn single_changes() -> Vec<Run> {
-    let mut draw = Draw::starting_at(12);
+    let (mut draw, mut beside) = (Draw::starting_at(12), Draw::starting_at(22));
     let mut runs = Vec::new();
     for (layout, words) in LAYOUTS {
         for kind in [5, 6, 7, 8, 9] {
@@ -26,11 +26,13 @@ fn single_changes() -> Vec<Run> {
             let last = last_index(&floor, kind);
             for index in [0, draw.between(1, last - 1), last] {
                 let change = clear_change_of(&mut draw, &floor, kind, index);
+                let table = table(&mut draw, &floor, Held::AllWrong, 2);
                 runs.push(Run {
                     description: format!("kind {kind} index {index}, {nx}x{ny}, {words}"),
                     opens: false,
                     floor: floor.clone(),
-                    table: table(&mut draw, &floor, Held::AllWrong, 2),
+                    governing: governing(&mut beside, &floor, &table, Held::AllWrong, 3),
+                    table,
                     changes: vec![change],
                 });
             }
@@ -40,7 +42,7 @@ fn single_changes() -> Vec<Run> {
 }
 
 fn several_changes() -> Vec<Run> {
-    let mut draw = Draw::starting_at(13);
+    let (mut draw, mut beside) = (Draw::starting_at(13), Draw::starting_at(23));
     let mut runs = Vec::new();
     for number in 0..36 {
         let (layout, words) = LAYOUTS[number % 3];
@@ -49,11 +51,16 @@ fn several_changes() -> Vec<Run> {
         let ny = draw.between(3, most);
         let floor = clear::floor(&mut draw, nx, ny, layout);
         let held = draw.one_of(&[Held::SomeWrong, Held::AllWrong]);
+        let held_beside = beside.one_of(&[Held::Right, Held::SomeWrong, Held::AllWrong]);
         let count = draw.between(2, 6);
+        let table = table(&mut draw, &floor, held, count);
         runs.push(Run {
-            description: format!("quiet {number}, {nx}x{ny}, {words}, {held:?}"),
+            description: format!(
+                "quiet {number}, {nx}x{ny}, {words}, {held:?} and {held_beside:?}"
+            ),
             opens: false,
-            table: table(&mut draw, &floor, held, count),
+            governing: governing(&mut beside, &floor, &table, held_beside, count),
+            table,
             changes: changes(&mut draw, Changing::quietly(&floor), count),
             floor,
         });

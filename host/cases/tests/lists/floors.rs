@@ -1,6 +1,8 @@
 //! The floors that the printing program is held against.
 
-use cases::floors::{self, Described};
+use crate::runs::ties;
+use cases::draw::Draw;
+use cases::floors::{self, tied, Described};
 use floor::Floor;
 use reference::floor_file::{records_of_kind, sides, sizes};
 use reference::frame::{x_frames, y_frames, Frame, OuterEnd};
@@ -9,6 +11,7 @@ use reference::moments::clear_length;
 use reference::panel::{panel, panels, x_line_alphas, y_line_alphas};
 use reference::stiffness::torsion;
 use reference::strips::{beam_ratio, l2, span_ratio, torsion_ratio};
+use reference::table::numbers;
 use reference::verdict::judge;
 use std::collections::BTreeSet;
 use std::sync::OnceLock;
@@ -52,6 +55,17 @@ fn floors_drawn_as_clear_are() {
         if floor.description.starts_with("clear") {
             assert_eq!(judge(&floor.bytes), (0, 0), "{}", floor.description);
         }
+    }
+}
+
+#[test]
+fn floors_made_to_have_a_tie_do() {
+    let mut draw = Draw::starting_at(41);
+    let mut floors: Vec<Vec<u8>> = (0..100).map(|_| tied::floor(&mut draw).bytes()).collect();
+    floors.extend(tied::floors().into_iter().map(|floor| floor.bytes));
+    for floor in floors {
+        assert_eq!(judge(&floor), (0, 0));
+        assert!(!ties(&floor, &numbers(&floor)).is_empty(), "{floor:?}");
     }
 }
 

@@ -2,7 +2,9 @@
 
 use cases::runs::{self, play, Played, Run};
 use reference::floor_file::{sizes, Record};
+use reference::governing;
 use reference::layout::layout;
+use reference::named::named;
 use reference::refusals::refusal;
 use reference::table::numbers;
 use reference::verdict::judge;
@@ -23,7 +25,7 @@ fn runs() -> &'static [(Run, Played)] {
 fn right_tables_stay_right() {
     let mut held = 0;
     for (run, played) in runs() {
-        if refusal(&run.floor) != 0 || run.table.len() < numbers(&run.floor).len() {
+        if !lent_enough(run) {
             continue;
         }
         let right = run.table.starts_with(&numbers(&run.floor));
@@ -35,6 +37,124 @@ fn right_tables_stay_right() {
         }
     }
     assert!(held >= 40);
+}
+
+/// Neither 1 to 7 nor 8 nor 13 applies to the floor as it is opened.
+fn lent_enough(run: &Run) -> bool {
+    refusal(&run.floor) == 0 && {
+        let (spans, supports) = asked(&run.floor);
+        run.table.len() >= spans && run.governing.len() >= supports
+    }
+}
+
+/// How many numbers of a table and of a slice a floor that is not refused asks for.
+fn asked(floor: &[u8]) -> (usize, usize) {
+    let sizes = sizes(floor);
+    (reference::table::length(sizes), governing::length(sizes))
+}
+
+/// "If the slice agreed with the table before a change, it agrees with it after."
+#[test]
+fn slices_that_agree_still_do() {
+    let agrees = |floor: &[u8], table: &[u32], slice: &[u32]| {
+        slice.starts_with(&governing::numbers(sizes(floor), table))
+    };
+    let (mut on_right_tables, mut on_wrong_tables) = (0, 0);
+    for (run, played) in runs() {
+        if !lent_enough(run) {
+            continue;
+        }
+        if run.opens || agrees(&run.floor, &run.table, &run.governing) {
+            let (_, supports) = asked(&run.floor);
+            assert!(
+                agrees(&played.floor, &played.table, &played.governing),
+                "{}",
+                run.description
+            );
+            assert_eq!(played.governing[supports..], run.governing[supports..]);
+            match played.table.starts_with(&numbers(&played.floor)) {
+                true => on_right_tables += 1,
+                false => on_wrong_tables += 1,
+            }
+        }
+    }
+    assert!(on_right_tables >= 40 && on_wrong_tables >= 20);
+}
+
+/// In many runs wrong numbers of the slice outlive changes that are taken, and some are put right.
+#[test]
+fn wrong_supports_are_left_and_put_right() {
+    let mut told_apart = 0;
+    for (run, played) in runs() {
+        if run.opens || judge(&played.floor) != (0, 0) || !changed(played) {
+            continue;
+        }
+        let from_table = governing::numbers(sizes(&played.floor), &played.table);
+        let some_left = !played.governing.starts_with(&from_table);
+        if some_left && played.governing != run.governing {
+            told_apart += 1;
+        }
+    }
+    assert!(told_apart >= 50, "{told_apart}");
+}
+
+/// The supports whose two faces have the same total and other parts.
+pub fn ties(floor: &[u8], table: &[u32]) -> Vec<governing::Support> {
+    let mut supports = governing::supports(sizes(floor));
+    supports.retain(|support| match support.faces(table)[..] {
+        [lower, higher] => lower[0] == higher[0] && lower != higher,
+        _ => false,
+    });
+    supports
+}
+
+/// "the lower span's on a tie": at supports that a change writes, the lower span's record being the one
+/// that it writes, and the higher span's.
+#[test]
+fn some_changes_make_a_tie() {
+    let mut written = [0; 2];
+    for (run, played) in runs() {
+        let (false, [change], true) = (run.opens, &run.changes[..], lent_enough(run)) else {
+            continue;
+        };
+        let Record { kind, index, .. } = Record::read(change);
+        if played.changes != [(0, 0)] || judge(&run.floor) != (0, 0) {
+            continue;
+        }
+        let named = named(kind, index, sizes(&run.floor));
+        for tie in ties(&played.floor, &played.table) {
+            let by = [tie.lower_span, tie.higher_span].map(|span| named.contains(&span.unwrap()));
+            if by[0] != by[1] {
+                written[usize::from(by[1])] += 1;
+            }
+        }
+    }
+    assert!(written.iter().all(|&ties| ties >= 20), "{written:?}");
+}
+
+/// 13: one number short is refused, just enough is taken, and where the table is short too it is 8.
+#[test]
+fn slices_at_their_length() {
+    let mut seen = BTreeSet::new();
+    for (run, played) in runs() {
+        let (Some((refused, _)), 0) = (played.opening, refusal(&run.floor)) else {
+            continue;
+        };
+        let (spans, supports) = asked(&run.floor);
+        let table_is_short = run.table.len() < spans;
+        match (table_is_short, run.governing.len() as i64 - supports as i64) {
+            (true, -1) => assert_eq!(seen_as(&mut seen, "both short", refused), 8),
+            (false, -1) => assert_eq!(seen_as(&mut seen, "slice short", refused), 13),
+            (false, 0) => assert_eq!(seen_as(&mut seen, "just enough", refused), 0),
+            _ => (),
+        }
+    }
+    assert_eq!(seen.len(), 3, "{seen:?}");
+}
+
+fn seen_as(seen: &mut BTreeSet<&'static str>, words: &'static str, refused: u128) -> u128 {
+    seen.insert(words);
+    refused
 }
 
 #[test]
@@ -147,15 +267,15 @@ fn limits_are_broken_and_mended() {
 #[test]
 fn every_refusal_comes_up() {
     let of_changes: BTreeSet<u128> = steps().iter().map(|step| step.refused).collect();
-    assert_eq!(of_changes, (0..=9).collect());
+    assert_eq!(of_changes, (0..=9).chain([13]).collect());
     // 5 to 7 also by the changed floor, the held one being clear.
-    for refusal in 5..=9 {
+    for refusal in [5, 6, 7, 8, 9, 13] {
         let of_a_clear_floor = |step: &Step| step.before == 0 && step.refused == refusal;
         assert!(steps().iter().any(of_a_clear_floor), "refusal {refusal}");
     }
     let openings = runs().iter().filter_map(|(_, played)| played.opening);
     let of_openings: BTreeSet<u128> = openings.map(|(refused, _)| refused).collect();
-    assert_eq!(of_openings, (0..=8).collect());
+    assert_eq!(of_openings, (0..=8).chain([13]).collect());
 }
 
 /// Changes of every length up to 40 bytes but a few, and of 16 most.

@@ -1,6 +1,6 @@
 //! Batches of what is described one by one: floors and changes that each show one thing, runs of changes, steel queries.
 
-use crate::stream::{Batch, Call, LONGEST_TABLE};
+use crate::stream::{Batch, Call, Lent, LONGEST_GOVERNING, LONGEST_TABLE};
 use cases::queries;
 use cases::refusals::{self, Case};
 use cases::runs::{self, Run};
@@ -9,14 +9,23 @@ use gandhrumil::Query;
 fn of_case(case: Case) -> Batch {
     // As many numbers as any floor of that length asks for, and more.
     let table = vec![7; LONGEST_TABLE.min(2 * case.floor.len())];
-    let mut batch = Batch::new(&case.floor, &table);
+    let governing = vec![8; LONGEST_GOVERNING.min(case.floor.len())];
+    let mut batch = Batch::new(Lent {
+        floor: case.floor,
+        table,
+        governing,
+    });
     batch.make(case.change.map_or(Call::Open, Call::Change));
     batch.show();
     batch
 }
 
 fn of_run(run: Run) -> Batch {
-    let mut batch = Batch::new(&run.floor, &run.table);
+    let mut batch = Batch::new(Lent {
+        floor: run.floor,
+        table: run.table,
+        governing: run.governing,
+    });
     if run.opens {
         batch.make(Call::Open);
     }
@@ -33,7 +42,7 @@ fn of_query(query: reference::steel::Query) -> Call {
 }
 
 pub fn batches() -> Vec<Batch> {
-    let mut queries_alone = Batch::new(&[], &[]);
+    let mut queries_alone = Batch::new(Lent::default());
     for given in queries::all() {
         queries_alone.make(of_query(given.query));
     }

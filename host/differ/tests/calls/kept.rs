@@ -1,13 +1,21 @@
 //! A few batches that are kept with the program, which is run on them wherever it is proved.
 
-use crate::stream::{Batch, Call};
+use crate::stream::{Batch, Call, Lent};
 use floor::{record, Floor};
 use gandhrumil::Query;
+use reference::floor_file::sizes;
+use reference::{governing, table};
 
-/// Wrong numbers, and five past the records.
-fn lent_table(floor: &[u8]) -> Vec<u32> {
-    let numbers = reference::table::numbers(floor).len() as u32 + 5;
-    (1..=numbers).collect()
+/// A floor with wrong numbers, five past the records of the table and three past the supports.
+fn lent(floor: &Floor) -> Lent {
+    let floor = floor.bytes();
+    let spans = table::length(sizes(&floor)) as u32;
+    let supports = governing::length(sizes(&floor)) as u32;
+    Lent {
+        floor,
+        table: (1..=spans + 5).collect(),
+        governing: (10_001..=10_003 + supports).collect(),
+    }
 }
 
 fn query(m: u64) -> Call {
@@ -15,21 +23,22 @@ fn query(m: u64) -> Call {
     Call::Steel(Query { m, b, t, d, fc, fy })
 }
 
-fn batch(floor: &[u8], table: &[u32], calls: &[Call]) -> Batch {
-    let mut batch = Batch::new(floor, table);
+fn batch(lent: Lent, calls: &[Call]) -> Batch {
+    let mut batch = Batch::new(lent);
     for call in calls {
         batch.make(call.clone());
     }
     batch
 }
 
+fn span(length: u32) -> Vec<u8> {
+    record(5, 1, [length, 0, 0])
+}
+
 /// Opened, an x span changed, and changes that are refused: a span out of range, and half a record.
 fn clear_floor() -> Batch {
-    let floor = Floor::clear(3, 3).bytes();
-    let span = |length| record(5, 1, [length, 0, 0]);
     let mut batch = batch(
-        &floor,
-        &lent_table(&floor),
+        lent(&Floor::clear(3, 3)),
         &[
             Call::Open,
             Call::Change(span(5_980)),
@@ -43,27 +52,35 @@ fn clear_floor() -> Batch {
     batch
 }
 
-/// Refused 1, and 8 for a table that is a number short. Neither writes.
-fn refused_floors() -> [Batch; 2] {
-    let floor = Floor::clear(3, 3).bytes();
-    let short = &lent_table(&floor)[6..];
-    [
-        batch(
-            &floor[..40],
-            &[7, 8],
-            &[Call::Open, Call::Change(vec![]), Call::Panel(0, 0)],
-        ),
-        batch(
-            &floor,
-            short,
-            &[Call::Open, Call::Change(record(5, 1, [5_980, 0, 0]))],
-        ),
-    ]
+/// An x span changed on wrong numbers, some of which outlive it.
+fn wrong_numbers() -> Batch {
+    let mut batch = batch(lent(&Floor::clear(3, 3)), &[Call::Change(span(5_980))]);
+    batch.show();
+    batch
+}
+
+/// Refused 1; 8 and 13 for a table and a slice that are a number short. None of them writes.
+fn refused_floors() -> [Batch; 3] {
+    let no_floor = Lent::of(&Floor::clear(3, 3).bytes()[..40], &[7, 8], &[9]);
+    let mut short_table = lent(&Floor::clear(3, 3));
+    let mut short_slice = short_table.clone();
+    short_table.table.truncate(383);
+    short_slice.governing.truncate(159);
+    let opened_and_changed = [Call::Open, Call::Change(span(5_980))];
+    let on_no_floor = [Call::Open, Call::Change(vec![]), Call::Panel(0, 0)];
+    let mut refused = [
+        batch(no_floor, &on_no_floor),
+        batch(short_table, &opened_and_changed),
+        batch(short_slice, &opened_and_changed),
+    ];
+    refused[0].show();
+    refused
 }
 
 pub fn batches() -> Vec<Batch> {
-    let [mut one, other] = refused_floors();
-    one.show();
     let queries = [2_195_000, 0, 20_000_000, 2_000_000_001].map(query);
-    vec![clear_floor(), one, other, batch(&[], &[], &queries)]
+    let mut batches = vec![clear_floor(), wrong_numbers()];
+    batches.extend(refused_floors());
+    batches.push(batch(Lent::default(), &queries));
+    batches
 }

@@ -12,7 +12,7 @@ use recording::batches;
 use std::collections::BTreeSet;
 use std::fs;
 use std::path::{Path, PathBuf};
-use stream::{Batch, Call, LONGEST_CHANGE, LONGEST_FLOOR, LONGEST_TABLE};
+use stream::{Batch, Call, Lent, LONGEST_CHANGE, LONGEST_FLOOR, LONGEST_GOVERNING, LONGEST_TABLE};
 
 fn stdin(batches: &[Batch]) -> Vec<u8> {
     batches.iter().flat_map(Batch::stdin).collect()
@@ -60,8 +60,8 @@ fn of_steel(call: &Call) -> bool {
 
 #[test]
 fn floors_and_panels() {
-    let batches = batches("floors", 40, |case, _| floors::case(case));
-    assert_eq!(refusals(&batches, opening), (0..=8).collect());
+    let batches = batches("opened floors", 40, |case, _| floors::case(case));
+    assert_eq!(refusals(&batches, opening), (0..=8).chain([13]).collect());
     assert!(refusals(&batches, of_panel).contains(&10));
     compare(&batches);
 }
@@ -73,8 +73,10 @@ fn floors_with_every_byte_flipped() {
 
 #[test]
 fn changes() {
-    let batches = batches("changes", 20, |case, _| runs::case(case));
-    assert!(refusals(&batches, changing).is_superset(&BTreeSet::from([0, 5, 6, 7, 8, 9])));
+    let batches = batches("runs of changes", 20, |case, _| runs::case(case));
+    let found = refusals(&batches, changing);
+    let wanted = BTreeSet::from([0, 5, 6, 7, 8, 9, 13]);
+    assert!(found.is_superset(&wanted), "{found:?}");
     compare(&batches);
 }
 
@@ -82,8 +84,8 @@ fn changes() {
 fn what_is_described() {
     let batches = described::batches();
     assert!(batches.iter().all(Batch::fits));
-    assert_eq!(refusals(&batches, opening), (0..=8).collect());
-    assert_eq!(refusals(&batches, changing), (0..=9).collect());
+    assert_eq!(refusals(&batches, opening), (0..=8).chain([13]).collect());
+    assert_eq!(refusals(&batches, changing), (0..=9).chain([13]).collect());
     compare(&batches);
 }
 
@@ -107,14 +109,19 @@ fn words(numbers: &[usize]) -> Vec<u8> {
 /// Buffers are filled whole, and what they have no room for is not read past.
 #[test]
 fn lengths_to_the_end_of_the_buffers() {
-    let mut batch = Batch::new(&[7; LONGEST_FLOOR], &[8; LONGEST_TABLE]);
+    let mut batch = Batch::new(Lent::of(
+        &[7; LONGEST_FLOOR],
+        &[8; LONGEST_TABLE],
+        &[9; LONGEST_GOVERNING],
+    ));
     batch.make(Call::Change(vec![9; LONGEST_CHANGE]));
     batch.show();
     compare(&[batch]);
     for stopped in [
         words(&[LONGEST_FLOOR + 1]),
         words(&[0, LONGEST_TABLE + 1]),
-        words(&[0, 0, 1, 2, LONGEST_CHANGE + 1]),
+        words(&[0, 0, LONGEST_GOVERNING + 1]),
+        words(&[0, 0, 0, 1, 2, LONGEST_CHANGE + 1]),
         words(&[usize::MAX]),
     ] {
         let stdin = [stopped, next_batch()].concat();
@@ -125,12 +132,23 @@ fn lengths_to_the_end_of_the_buffers() {
 /// At a batch without calls and at words that are no call. An input that ends goes on with zeros.
 #[test]
 fn where_it_stops() {
-    for stopped in [[0, 0, 0, 0], [0, 0, 1, 0], [0, 0, 1, 6]] {
+    for stopped in [[0, 0, 0, 0, 0], [0, 0, 0, 1, 0], [0, 0, 0, 1, 6]] {
         let stdin = [words(&stopped), next_batch()].concat();
         assert_eq!(printed("calls", &stdin), "");
     }
     let stdin = next_batch();
-    for end in [0, 2, 12, 13, 16, 30, stdin.len() - 60, stdin.len() - 1] {
+    for end in [
+        0,
+        2,
+        12,
+        13,
+        16,
+        17,
+        20,
+        34,
+        stdin.len() - 60,
+        stdin.len() - 1,
+    ] {
         let (cut, zeros) = (&stdin[..end], [0; 64]);
         assert_eq!(
             printed("calls", cut),
@@ -154,11 +172,13 @@ fn kept_contents() -> (Vec<u8>, String) {
 #[test]
 fn what_is_kept_is_right() {
     let (stdin, stdout) = kept_contents();
-    assert_eq!(fs::read(kept("stdin")).unwrap(), stdin);
-    assert_eq!(fs::read_to_string(kept("stdout")).unwrap(), stdout);
+    assert!(fs::read(kept("stdin")).unwrap() == stdin, "{RENEW}");
+    let kept = fs::read_to_string(kept("stdout")).unwrap();
+    assert_eq!(first_difference(&stdout, &kept), None, "{RENEW}");
 }
 
-/// `cargo test .. -p differ --test calls -- --ignored` writes the program's stdin and stdout anew.
+const RENEW: &str = "cargo tests -p differ --test calls -- --ignored writes stdin and stdout anew";
+
 #[test]
 #[ignore = "writes files"]
 fn write_what_is_kept() {

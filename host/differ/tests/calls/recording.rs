@@ -1,6 +1,6 @@
 //! The calls that the cases of `differ` make, answered by the reference and recorded.
 
-use crate::stream::{Batch, Call};
+use crate::stream::{Batch, Call, Lent};
 use differ::case::Case;
 use differ::job::{Calls, Job};
 use differ::tally::Tally;
@@ -61,36 +61,39 @@ fn in_batch<T>(
     })
 }
 
-/// After it floor and table are looked at whole.
-fn on_floor_and_table(floor: &[u8], table: &mut [u32], call: Call) -> (Answer, Vec<u8>) {
-    let lent: &[u32] = table;
-    let (answer, floor_after, table_after) = in_batch(
-        |batch| batch.floor == floor && batch.table == lent,
-        || Batch::new(floor, lent),
+/// After it all that is lent is looked at whole.
+fn on_lent(lent: Lent, call: Call) -> (Answer, Lent) {
+    in_batch(
+        |batch| batch.left == lent,
+        || Batch::new(lent.clone()),
         |batch| {
             let answer = batch.make(call);
             batch.show();
-            (answer, batch.floor.clone(), batch.table.clone())
+            (answer, batch.left.clone())
         },
-    );
-    table.copy_from_slice(&table_after);
-    (answer, floor_after)
+    )
 }
 
-fn open(floor: &[u8], table: &mut [u32]) -> Answer {
-    on_floor_and_table(floor, table, Call::Open).0
+fn open(floor: &[u8], table: &mut [u32], governing: &mut [u32]) -> Answer {
+    let (answer, left) = on_lent(Lent::of(floor, table, governing), Call::Open);
+    table.copy_from_slice(&left.table);
+    governing.copy_from_slice(&left.governing);
+    answer
 }
 
-fn change(floor: &mut [u8], table: &mut [u32], change: &[u8]) -> Answer {
-    let (answer, after) = on_floor_and_table(floor, table, Call::Change(change.to_vec()));
-    floor.copy_from_slice(&after);
+fn change(floor: &mut [u8], table: &mut [u32], governing: &mut [u32], change: &[u8]) -> Answer {
+    let call = Call::Change(change.to_vec());
+    let (answer, left) = on_lent(Lent::of(floor, table, governing), call);
+    floor.copy_from_slice(&left.floor);
+    table.copy_from_slice(&left.table);
+    governing.copy_from_slice(&left.governing);
     answer
 }
 
 fn panel(floor: &[u8], x: u64, y: u64) -> Answer {
     in_batch(
-        |batch| batch.floor == floor,
-        || Batch::new(floor, &[]),
+        |batch| batch.left.floor == floor,
+        || Batch::new(Lent::of(floor, &[], &[])),
         |batch| batch.make(Call::Panel(x, y)),
     )
 }
@@ -98,7 +101,7 @@ fn panel(floor: &[u8], x: u64, y: u64) -> Answer {
 fn steel(query: Query) -> Answer {
     in_batch(
         |_| true,
-        || Batch::new(&[], &[]),
+        || Batch::new(Lent::default()),
         |batch| batch.make(Call::Steel(query)),
     )
 }

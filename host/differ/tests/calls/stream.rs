@@ -1,12 +1,12 @@
 //! Batches of calls as the program reads them (`crates/calls/src/main.rt` has the form), with the lines that it has to print.
 
 use gandhrumil::{Answer, Query};
-use reference::span::NUMBERS;
-use reference::{held, opening, panel, steel};
+use reference::{governing, held, opening, panel, span, steel};
 
 /// What the program's buffers have room for.
 pub const LONGEST_FLOOR: usize = 4096;
-pub const LONGEST_TABLE: usize = 320 * NUMBERS;
+pub const LONGEST_TABLE: usize = 320 * span::NUMBERS;
+pub const LONGEST_GOVERNING: usize = 346 * governing::NUMBERS;
 pub const LONGEST_CHANGE: usize = 64;
 
 #[derive(Clone, Debug)]
@@ -24,19 +24,44 @@ pub struct Made {
     pub lines: Vec<String>,
 }
 
-/// A floor with the table lent to it, and the calls made on them.
+/// A floor with the table and the governing slice lent to it, and the calls made on them.
 pub struct Batch {
-    lent_floor: Vec<u8>,
-    lent_table: Vec<u32>,
-    /// As the calls left them.
+    lent: Lent,
+    /// As the calls left it.
+    pub left: Lent,
+    pub made: Vec<Made>,
+}
+
+#[derive(Clone, Debug, Default, PartialEq, Eq)]
+pub struct Lent {
     pub floor: Vec<u8>,
     pub table: Vec<u32>,
-    pub made: Vec<Made>,
+    pub governing: Vec<u32>,
+}
+
+impl Lent {
+    pub fn of(floor: &[u8], table: &[u32], governing: &[u32]) -> Lent {
+        Lent {
+            floor: floor.to_vec(),
+            table: table.to_vec(),
+            governing: governing.to_vec(),
+        }
+    }
 }
 
 fn wide(numbers: &[u64]) -> Vec<u8> {
     let bytes = numbers.iter().map(|number| number.to_le_bytes());
     bytes.collect::<Vec<_>>().concat()
+}
+
+/// How many there are, then these.
+fn counted(numbers: &[u32]) -> Vec<u8> {
+    let bytes = numbers.iter().map(|number| number.to_le_bytes());
+    [
+        word(numbers.len()).to_vec(),
+        bytes.collect::<Vec<_>>().concat(),
+    ]
+    .concat()
 }
 
 fn word(number: usize) -> [u8; 4] {
@@ -63,26 +88,36 @@ impl Made {
 }
 
 impl Batch {
-    pub fn new(floor: &[u8], table: &[u32]) -> Batch {
+    pub fn new(lent: Lent) -> Batch {
         Batch {
-            lent_floor: floor.to_vec(),
-            lent_table: table.to_vec(),
-            floor: floor.to_vec(),
-            table: table.to_vec(),
+            left: lent.clone(),
+            lent,
             made: Vec::new(),
         }
     }
 
     pub fn fits(&self) -> bool {
-        self.floor.len() <= LONGEST_FLOOR && self.table.len() <= LONGEST_TABLE
+        let Lent {
+            floor,
+            table,
+            governing,
+        } = &self.lent;
+        floor.len() <= LONGEST_FLOOR
+            && table.len() <= LONGEST_TABLE
+            && governing.len() <= LONGEST_GOVERNING
     }
 
     /// Makes a call that the reference answers.
     pub fn make(&mut self, call: Call) -> Answer {
+        let Lent {
+            floor,
+            table,
+            governing,
+        } = &mut self.left;
         let (refused, value) = match &call {
-            Call::Open => opening::open(&self.floor, &mut self.table),
-            Call::Change(bytes) => held::change(&mut self.floor, &mut self.table, bytes),
-            Call::Panel(x, y) => panel::panel(&self.floor, (*x).into(), (*y).into()),
+            Call::Open => opening::open(floor, table, governing),
+            Call::Change(bytes) => held::change(floor, table, governing, bytes),
+            Call::Panel(x, y) => panel::panel(floor, (*x).into(), (*y).into()),
             Call::Steel(Query { m, b, t, d, fc, fy }) => {
                 let numbers = [m, b, t, d, fc, fy].map(|&number| number.into());
                 steel::answer(steel::Query::of(numbers))
@@ -97,23 +132,23 @@ impl Batch {
         }
     }
 
+    /// The floor's bytes, then all numbers of the table, then all numbers of the slice.
     pub fn show(&mut self) {
-        let bytes = self.floor.iter().map(ToString::to_string);
-        let numbers = self.table.iter().map(ToString::to_string);
+        let bytes = self.left.floor.iter().map(ToString::to_string);
+        let numbers = self.left.table.iter().chain(&self.left.governing);
         self.made.push(Made {
             call: Call::Show,
-            lines: bytes.chain(numbers).collect(),
+            lines: bytes.chain(numbers.map(ToString::to_string)).collect(),
         });
     }
 
     pub fn stdin(&self) -> Vec<u8> {
-        let numbers = self.lent_table.iter().map(|number| number.to_le_bytes());
         let calls = self.made.iter().map(|made| made.call.stdin());
         [
-            &word(self.lent_floor.len())[..],
-            &self.lent_floor,
-            &word(self.lent_table.len()),
-            &numbers.collect::<Vec<_>>().concat(),
+            &word(self.lent.floor.len())[..],
+            &self.lent.floor,
+            &counted(&self.lent.table),
+            &counted(&self.lent.governing),
             &word(self.made.len()),
             &calls.collect::<Vec<_>>().concat(),
         ]

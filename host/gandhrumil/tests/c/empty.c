@@ -11,12 +11,13 @@
 static const uintptr_t nowhere[] = { 0, 1, 2, 3, 64, UINTPTR_MAX - 3, UINTPTR_MAX };
 enum { PLACES = sizeof nowhere / sizeof *nowhere };
 
-/* 16 * (4 * 3 + 4 * 3), for 3 by 3 bays. */
-enum { NUMBERS = 384 };
+/* 16 * (4 * 3 + 4 * 3) and 5 * (4 * 4 + 4 * 4), for 3 by 3 bays. */
+enum { TABLE_NUMBERS = 384, GOVERNING_NUMBERS = 160 };
 
 typedef struct {
     floor_file floor;
-    uint32_t table[NUMBERS];
+    uint32_t table[TABLE_NUMBERS];
+    uint32_t governing[GOVERNING_NUMBERS];
     uint8_t change[RECORD_BYTES];
 } buffers;
 
@@ -24,7 +25,7 @@ static buffers lent, before;
 static int compared, wrong;
 
 /* A set of pointers. */
-enum { FLOOR = 1, TABLE = 2, CHANGE = 4, ALL = 7 };
+enum { FLOOR = 1, TABLE = 2, GOVERNING = 4, CHANGE = 8, ALL = 15 };
 
 typedef struct {
     uint32_t held;   /* the number that the floor gets by itself */
@@ -48,23 +49,27 @@ static floor_file held_floor(uint32_t number)
     return floor;
 }
 
-/* The lent buffers: the floor, a table of any numbers, and a change that is taken where nothing else is amiss. */
+/* The lent buffers: the floor, a table and governing moments of any numbers, and a change that is taken where nothing else is
+ * amiss. */
 static void fill(uint32_t held)
 {
     lent.floor = held_floor(held);
     memset(lent.table, 0x5a, sizeof lent.table);
+    memset(lent.governing, 0x5a, sizeof lent.governing);
     write_record(lent.change, 3, 0, 6000, 3000, 0);
     memcpy(&before, &lent, sizeof lent);
 }
 
-/* The first that applies, in the order tried by opening and by a change: 1 to 7 on the held floor, 9, 8. */
+/* The first that applies, in the order tried by opening and by a change: 1 to 7 on the held floor, 9, 8, 13. */
 static uint32_t first_refusal(attempt a)
 {
     if (a.empty & FLOOR)
         return 1;
     if (a.held != 0)
         return a.held;
-    return a.empty & CHANGE ? 9 : 8;
+    if (a.empty & CHANGE)
+        return 9;
+    return a.empty & TABLE ? 8 : 13;
 }
 
 /* The call has to give the first refusal, this value beside it, and write nothing. */
@@ -76,23 +81,27 @@ static void expect(const char *call, attempt a, gandhrumil_answer answer, uint32
     if (answer.refusal == refusal && answer.value == value && !written)
         return;
     wrong++;
-    printf("%s, floor of refusal %u, length 0 of%s%s%s at %#lx: %u %u%s, right is %u %u\n", call, (unsigned)a.held,
-           a.empty & FLOOR ? " floor" : "", a.empty & TABLE ? " table" : "", a.empty & CHANGE ? " change" : "",
-           (unsigned long)a.place, (unsigned)answer.refusal, (unsigned)answer.value, written ? " and something written" : "",
-           (unsigned)refusal, (unsigned)value);
+    printf("%s, floor of refusal %u, length 0 of%s%s%s%s at %#lx: %u %u%s, right is %u %u\n", call, (unsigned)a.held,
+           a.empty & FLOOR ? " floor" : "", a.empty & TABLE ? " table" : "", a.empty & GOVERNING ? " governing" : "",
+           a.empty & CHANGE ? " change" : "", (unsigned long)a.place, (unsigned)answer.refusal, (unsigned)answer.value,
+           written ? " and something written" : "", (unsigned)refusal, (unsigned)value);
 }
 
 static void try_pointers(attempt a)
 {
     uint8_t *floor = a.empty & FLOOR ? (uint8_t *)a.place : lent.floor.bytes;
     uint32_t *table = a.empty & TABLE ? (uint32_t *)a.place : lent.table;
+    uint32_t *governing = a.empty & GOVERNING ? (uint32_t *)a.place : lent.governing;
     uint8_t *change = a.empty & CHANGE ? (uint8_t *)a.place : lent.change;
     size_t floor_len = a.empty & FLOOR ? 0 : lent.floor.len;
-    size_t table_len = a.empty & TABLE ? 0 : NUMBERS;
+    size_t table_len = a.empty & TABLE ? 0 : TABLE_NUMBERS;
+    size_t governing_len = a.empty & GOVERNING ? 0 : GOVERNING_NUMBERS;
     size_t change_len = a.empty & CHANGE ? 0 : RECORD_BYTES;
-    expect("change", a, gandhrumil_change(floor, floor_len, table, table_len, change, change_len), 255);
+    gandhrumil_answer changed =
+        gandhrumil_change(floor, floor_len, table, table_len, governing, governing_len, change, change_len);
+    expect("change", a, changed, 255);
     if (!(a.empty & CHANGE))
-        expect("open", a, gandhrumil_open(floor, floor_len, table, table_len), 255);
+        expect("open", a, gandhrumil_open(floor, floor_len, table, table_len, governing, governing_len), 255);
     if (a.empty == FLOOR)
         expect("panel", a, gandhrumil_panel(floor, floor_len, 0, 0), 0);
 }

@@ -1,12 +1,12 @@
-/* The four calls on what 01 gives an answer for. C99 that is C++ too. */
+/* The four calls on what 01 gives an answer for, and governing moments worked out by hand. C99 that is C++ too. */
 #include "gandhrumil.h"
 
 #include "floor.h"
 #include <stdio.h>
 #include <string.h>
 
-/* One bay each way: 16 * (2 * 1 + 2 * 1) numbers, and one past them. */
-enum { NUMBERS = 64, LENT = NUMBERS + 1 };
+/* One bay each way: 16 * (2 * 1 + 2 * 1) numbers, and 5 * (2 * 2 + 2 * 2). */
+enum { TABLE_NUMBERS = 64, GOVERNING_NUMBERS = 40 };
 
 static int wrong;
 
@@ -19,16 +19,26 @@ static void expect(const char *what, gandhrumil_answer answer, uint32_t refusal,
            (unsigned)value);
 }
 
-/* "Verdict not 0: all of them are 0. Numbers past the table stay". */
-static void expect_zeros(const char *what, const uint32_t *table)
+/* "Verdict not 0: all of them are 0. Numbers past the table stay", and the governing moments alike. */
+static void expect_zeros(const char *what, const uint32_t *numbers, int count)
 {
     int zeros = 0;
-    for (int i = 0; i < NUMBERS; i++)
-        zeros += table[i] == 0;
-    if (zeros == NUMBERS && table[NUMBERS] == 7)
+    for (int i = 0; i < count; i++)
+        zeros += numbers[i] == 0;
+    if (zeros == count && numbers[count] == 7)
         return;
     wrong++;
-    printf("%s: %d numbers are 0, and the one past them is %u\n", what, zeros, (unsigned)table[NUMBERS]);
+    printf("%s: %d numbers of %d are 0, and the one past them is %u\n", what, zeros, count, (unsigned)numbers[count]);
+}
+
+static void expect_five(const char *what, const uint32_t *found, const uint32_t *right)
+{
+    if (memcmp(found, right, 5 * sizeof *found) == 0)
+        return;
+    wrong++;
+    printf("%s: %u %u %u %u %u, right is %u %u %u %u %u\n", what, (unsigned)found[0], (unsigned)found[1], (unsigned)found[2],
+           (unsigned)found[3], (unsigned)found[4], (unsigned)right[0], (unsigned)right[1], (unsigned)right[2],
+           (unsigned)right[3], (unsigned)right[4]);
 }
 
 /* 01's example of the printing program, which prints `0 1`. */
@@ -40,29 +50,60 @@ static floor_file one_bay(void)
     return floor;
 }
 
+/* Wrong numbers, and a 7 past them. */
+static void spoil(uint32_t *numbers, int count)
+{
+    memset(numbers, 0xff, (size_t)count * sizeof *numbers);
+    numbers[count] = 7;
+}
+
 static void floors(void)
 {
     floor_file floor = one_bay();
-    uint32_t table[LENT];
+    uint32_t table[TABLE_NUMBERS + 1], governing[GOVERNING_NUMBERS + 1];
+    const size_t table_len = TABLE_NUMBERS + 1, governing_len = GOVERNING_NUMBERS + 1;
     uint8_t change[RECORD_BYTES];
-    memset(table, 0xff, sizeof table);
-    table[NUMBERS] = 7;
-    expect("open", gandhrumil_open(floor.bytes, floor.len, table, LENT), 0, 1);
-    expect_zeros("open", table);
+    spoil(table, TABLE_NUMBERS);
+    spoil(governing, GOVERNING_NUMBERS);
+    expect("open", gandhrumil_open(floor.bytes, floor.len, table, table_len, governing, governing_len), 0, 1);
+    expect_zeros("open, table", table, TABLE_NUMBERS);
+    expect_zeros("open, governing", governing, GOVERNING_NUMBERS);
     /* A clear span of 3,600: 3600/30 is 120, and no slab is below 125. */
     expect("panel", gandhrumil_panel(floor.bytes, floor.len, 0, 0), 0, 125);
     expect("no panel", gandhrumil_panel(floor.bytes, floor.len, 0, 1), 10, 0);
     /* Of 5,600 along y: 186.7. */
     write_record(change, 6, 0, 6000, 0, 0);
-    memset(table, 0xff, sizeof table - sizeof *table);
-    expect("change", gandhrumil_change(floor.bytes, floor.len, table, LENT, change, sizeof change), 0, 1);
-    expect_zeros("change", table);
+    spoil(table, TABLE_NUMBERS);
+    spoil(governing, GOVERNING_NUMBERS);
+    expect("change",
+           gandhrumil_change(floor.bytes, floor.len, table, table_len, governing, governing_len, change, sizeof change), 0, 1);
+    expect_zeros("change, table", table, TABLE_NUMBERS);
+    expect_zeros("change, governing", governing, GOVERNING_NUMBERS);
     expect("panel of the changed floor", gandhrumil_panel(floor.bytes, floor.len, 0, 0), 0, 187);
+}
+
+/* 3 by 3 bays of 6,000 without beams. Of x line 1, W 6,000 and ln 5,600: Mo is 92000 * 6000 * 5600 * 5600 / 80000000000 = 216,384.
+ * Its outer ends have 26 percent, all in the column strip; its inner supports 70 of the end span's, against 65 of the inner one's,
+ * and three quarters of that in the column strip. Its supports are 4 to 7. */
+static void governing_moments(void)
+{
+    static const uint32_t outer[5] = { 5625984, 5625984, 0, 0, 5625984 };
+    static const uint32_t inner[5] = { 15146880, 11360160, 3786720, 0, 11360160 };
+    floor_file floor = square(3, NO_BEAMS);
+    uint32_t table[384], governing[160];
+    expect("open, one number short", gandhrumil_open(floor.bytes, floor.len, table, 384, governing, 159), 13, 255);
+    expect("open, both short", gandhrumil_open(floor.bytes, floor.len, table, 383, governing, 159), 8, 255);
+    expect("open, clear", gandhrumil_open(floor.bytes, floor.len, table, 384, governing, 160), 0, 0);
+    expect_five("x line 1, support 0", governing + 5 * 4, outer);
+    expect_five("x line 1, support 1", governing + 5 * 5, inner);
+    expect_five("x line 1, support 2", governing + 5 * 6, inner);
+    expect_five("x line 1, support 3", governing + 5 * 7, outer);
 }
 
 int main(void)
 {
     floors();
+    governing_moments();
     expect("steel", gandhrumil_steel(2195000, 1000, 150, 124, 30, 420), 0, 484);
     expect("steel for no moment", gandhrumil_steel(0, 1000, 150, 124, 30, 420), 0, 270);
     expect("too much moment", gandhrumil_steel(20000000, 1000, 150, 124, 30, 420), 12, 0);

@@ -8,23 +8,24 @@
 #include <string.h>
 #include <ucontext.h>
 
-/* 16 * (13 * 12 + 13 * 12) numbers. */
-enum { BAYS = 12, NUMBERS = 4992 };
+/* 16 * (13 * 12 + 13 * 12) numbers, and 5 * (13 * 13 + 13 * 13). */
+enum { BAYS = 12, TABLE_NUMBERS = 4992, GOVERNING_NUMBERS = 1690 };
 
 static floor_file floor_lent;
-static uint32_t table[NUMBERS];
+static uint32_t table[TABLE_NUMBERS], governing[GOVERNING_NUMBERS];
 static uint8_t change[RECORD_BYTES];
 static gandhrumil_answer answer;
 static int wrong;
 
 static void call_open(void)
 {
-    answer = gandhrumil_open(floor_lent.bytes, floor_lent.len, table, NUMBERS);
+    answer = gandhrumil_open(floor_lent.bytes, floor_lent.len, table, TABLE_NUMBERS, governing, GOVERNING_NUMBERS);
 }
 
 static void call_change(void)
 {
-    answer = gandhrumil_change(floor_lent.bytes, floor_lent.len, table, NUMBERS, change, RECORD_BYTES);
+    answer = gandhrumil_change(floor_lent.bytes, floor_lent.len, table, TABLE_NUMBERS, governing, GOVERNING_NUMBERS, change,
+                               RECORD_BYTES);
 }
 
 static void call_panel(void)

@@ -3,6 +3,7 @@
 mod changes;
 mod floors;
 mod fraction;
+mod governing;
 mod hand_made;
 mod held;
 mod layouts;

@@ -4,17 +4,17 @@ use borrow.Author.Needs.{needs}
 use lib.ListN.{length}
 use mathlib.Core.Path.{_≡_}
 use Prim.Native.Nat.{_-_}
-use Rattle.calls.proofs.read_table.Statement.{statement}
-use Rattle.calls.proofs.read_table.Tie as tie
+use Rattle.calls.proofs.read_numbers.Statement.{statement}
+use Rattle.calls.proofs.read_numbers.Tie as tie
 
 abbrev Inv-loop : tie.InvT-loop
-Inv-loop table₀ i₀ table i = length table ≡ length table₀
+Inv-loop slice₀ i₀ slice i = length slice ≡ length slice₀
 
 abbrev μ-loop : tie.MeasureT-loop
-μ-loop table₀ i₀ table i = length table₀ - i
+μ-loop slice₀ i₀ slice i = length slice₀ - i
 
-pub read-table-spec : {M : Type 1} → statement M
-read-table-spec =
+pub read-numbers-spec : {M : Type 1} → statement M
+read-numbers-spec =
     tie.close
     (tie.spec
     Inv-loop

@@ -1,0 +1,4 @@
+pub mod Governing
+pub mod Beside
+pub mod Meaning
+pub mod Asked

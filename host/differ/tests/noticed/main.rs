@@ -1,0 +1,162 @@
+//! Wrong libraries in place of the right one: each is found out.
+
+mod changes;
+mod openings;
+mod order;
+mod supports;
+
+use cases::draw::Draw;
+use differ::case::Case;
+use differ::job::{Calls, Change, Job, LIBRARY};
+use differ::tally::Tally;
+use differ::work::{parts, Amount};
+use differ::{runs, variety};
+use gandhrumil::{Answer, Query};
+
+const FEW: Amount = Amount {
+    floors: 400,
+    flipped: 0,
+    changes: 2_000,
+    queries: 2_000,
+};
+
+/// What is said of the first difference.
+fn noticed(part: &str, calls: Calls) -> String {
+    let job = Job {
+        calls,
+        ..Job::of_the_library(1)
+    };
+    let mut parts = parts(FEW).into_iter();
+    let part = parts.find(|one| one.name == part).unwrap();
+    let compared = part.compare(&job, 0..part.cases, 1);
+    compared.expect_err("a difference").to_string()
+}
+
+#[track_caller]
+fn assert_noticed(part: &str, calls: Calls, words: &str) {
+    let noticed = noticed(part, calls);
+    assert!(noticed.contains(words), "{noticed}");
+}
+
+/// What is said of the first difference in the runs that are described.
+fn noticed_in_runs(change: Change) -> String {
+    let job = Job {
+        calls: Calls { change, ..LIBRARY },
+        ..Job::of_the_library(1)
+    };
+    let mut tally = Tally::default();
+    let mut case = Case {
+        job: &job,
+        draw: Draw::starting_at(job.seed),
+        tally: &mut tally,
+    };
+    let runs = cases::runs::all();
+    let mut compared = runs.iter().map(|run| runs::replay(&mut case, run));
+    compared.find_map(Result::err).expect("a difference")
+}
+
+#[track_caller]
+fn assert_noticed_in_runs(change: Change, words: &str) {
+    let noticed = noticed_in_runs(change);
+    assert!(noticed.contains(words), "{noticed}");
+}
+
+/// The last number that is lent mostly lies past the floor's.
+fn spoil_last(numbers: &mut [u32]) {
+    if let Some(last) = numbers.last_mut() {
+        *last = !*last;
+    }
+}
+
+fn spoil_first(numbers: &mut [u32]) {
+    if let Some(first) = numbers.first_mut() {
+        *first = !*first;
+    }
+}
+
+/// Of a floor of 4 by 4 bays the last one alone.
+fn panel_wrong_in_one_bay(floor: &[u8], x: u64, y: u64) -> Answer {
+    let answer = gandhrumil::panel(floor, x, y);
+    match (answer.refusal, x, y) {
+        (0, 3, 3) => Answer {
+            value: answer.value + 1,
+            ..answer
+        },
+        _ => answer,
+    }
+}
+
+/// A bay read from the lower half of its number.
+fn panel_of_32_bits(floor: &[u8], x: u64, y: u64) -> Answer {
+    gandhrumil::panel(floor, x as u32 as u64, y)
+}
+
+#[test]
+fn wrong_panels() {
+    let with = |panel| Calls { panel, ..LIBRARY };
+    let [one, narrow] = [panel_wrong_in_one_bay, panel_of_32_bits].map(with);
+    assert_noticed(
+        "floors",
+        one,
+        "panel 3, 3: the library answers refusal 0 and ",
+    );
+    assert_noticed("floors", narrow, "right is refusal 10 and 0");
+}
+
+/// Off by one mm² for the weakest concrete.
+fn steel_not_least(query: Query) -> Answer {
+    let answer = gandhrumil::steel(query);
+    match (answer.refusal, query.fc) {
+        (0, 20) => Answer {
+            value: answer.value + 1,
+            ..answer
+        },
+        _ => answer,
+    }
+}
+
+#[test]
+fn wrong_steel() {
+    let calls = Calls {
+        steel: steel_not_least,
+        ..LIBRARY
+    };
+    assert_noticed("steel queries", calls, "fc: 20, ");
+}
+
+/// The words are enough to bring the case back.
+#[test]
+fn a_difference_names_its_case() {
+    let calls = Calls {
+        steel: steel_not_least,
+        ..LIBRARY
+    };
+    let noticed = noticed("steel queries", calls);
+    assert!(
+        noticed.starts_with("difference: seed 1, steel queries, case 0: Query {"),
+        "{noticed}"
+    );
+}
+
+/// Where nothing is drawn every sort is missed.
+#[test]
+fn what_never_came_up() {
+    let missed = variety::all(&Tally::default());
+    for words in [
+        "a floor that breaks limit 32",
+        "a damaged floor: Refused(8)",
+        "a damaged floor: Refused(13)",
+        "a panel query: refusal 10",
+        "12 bays each way",
+        "some choice of sides",
+        "a change: Mended",
+        "a change: Refused(9)",
+        "a change: Refused(13)",
+        "a change of kind 8 that keeps a floor clear, on a wrong table",
+        "a change of kind 5 that keeps a floor clear, on a slice that agrees",
+        "a change that makes a tie",
+        "a steel query: refusal 12",
+    ] {
+        assert!(missed.iter().any(|one| one == words), "{words}");
+    }
+}
