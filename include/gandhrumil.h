@@ -19,7 +19,7 @@
 #define GANDHRUMIL_VERSION 2
 
 /* A call uses less than GANDHRUMIL_STACK bytes of stack. Measured on floors of 12 by 12 bays, clear and not, the deepest uses less
- * than 6 KiB, on aarch64 and, under an emulator, on x86-64; the rest is margin. */
+ * than 6 KiB on aarch64, and in version 1 on x86-64 too, under an emulator; the rest is margin. */
 #define GANDHRUMIL_STACK 16384
 
 #ifdef __cplusplus
