@@ -1,15 +1,14 @@
 -- The inertia of a beam with its flange is bounded by the slab's own, and so is α: all that a user of α may know of it, besides its name.
---     apart-most      the largest number on the way, which b 1000, h 1500, t 375, inside, reaches: it fits 64 bits
+--     apart-most      the largest number on the way, reached at b 1000, h 1500, t 375, inside: it fits 64 bits
 --     flanged-most    the flange adds no more than 8t, so that its share grows with t² and not with t³
 -- Assumes nothing.
 use Prim.Native.Nat.{ℕ, _+_, _*_, _-_, _/_, _≤_, _<_}
-use mathlib.Core.Path.{_≡_}
+use mathlib.Core.Path.{_≡_, refl}
 use mathlib.Core.Bool.{Bool, true, false}
-use native.Mathlib.Nat.{le-trans, mul-le-mul-left, mul-assoc, mul-pos, div-le-of-le-mul, le-refl}
+use native.Mathlib.Nat.{le-trans, mul-le-mul-left, mul-assoc, mul-pos, div-le-of-le-mul}
 use native.Mathlib.Decide.{decLt}
 use native.Mathlib.Omega.{arith}
 use borrow.Author.Needs.{zero≤}
-use lib.Dec.{lit≤}
 use Rattle.numbers.proofs.Bounded.{_⊗_, _⊖_, #, cubed}
 use Rattle.numbers.proofs.Tests.{says-eq, by-test}
 use Rattle.stiffness.specs.Asked.{Beam, Flanged, Frame, Part}
@@ -93,6 +92,11 @@ module _ {b h p t : ℕ} (flanged : Flanged b h p t) where
 
   pub wing : Part p t
   wing = record { width-most = overhang-most; depth-most = omega (arith, flanged .beam .slab-most) }
+
+-- reached: the bound could not be lower
+apart-reached : apart 1000 1500 (overhang false 1500 375) 375 ≡ 4805419921875000000
+unfolding flange
+apart-reached = refl
 
 -- ---- α
 
