@@ -9,7 +9,7 @@ use native.Mathlib.Nat.{le-trans, mul-le-mul-left, mul-assoc, mul-pos, div-le-of
 use native.Mathlib.Decide.{decLt}
 use native.Mathlib.Omega.{arith}
 use borrow.Author.Needs.{zero≤}
-use Rattle.numbers.proofs.Bounded.{_⊗_, _⊖_, #, cubed}
+use Rattle.numbers.proofs.Bounded.{_⊗_, _⊖_, #, over, cubed}
 use Rattle.numbers.proofs.Tests.{says-eq, by-test}
 use Rattle.stiffness.specs.Asked.{Beam, Flanged, Frame, Part}
 use Rattle.stiffness.specs.Sections.{cube, ofBeam, area, inertia, flange, overhang, apart, flangedInertia}
@@ -41,6 +41,10 @@ cubed-most t u h = omega (arith, turned (3 * t + u), mul-le-mul-left (u * u) (me
     turned : (m : ℕ) → u * u * (m * m) ≡ m * u * (m * u)
     turned m = omega arith
 
+-- and so does what is left of it
+pub term-most : {n d r : ℕ} → n ≤ 4805419921875000000 → 0 < d → r ≡ n / d → r ≤ 4805419921875000000
+term-most most there e = rw e (over most there tt)
+
 module _ {b h p t : ℕ} (flanged : Flanged b h p t) where
   deeper : t < h
   deeper = flanged .beam .above (flanged .there)
@@ -54,6 +58,9 @@ module _ {b h p t : ℕ} (flanged : Flanged b h p t) where
   unfolding flange
   by-slab = omega (arith, flanged .most)
 
+  overhang-most : p ≤ 2400
+  overhang-most = omega (arith, deeper, flanged .beam .depth-most, by-below, by-slab)
+
   moved : p * t * ((h - t) * (h - t)) ≤ 1067871093750
   moved =
       omega
@@ -65,9 +72,9 @@ module _ {b h p t : ℕ} (flanged : Flanged b h p t) where
   pub apart-most : apart b h p t ≤ 4805419921875000000
   apart-most = rw (mul-assoc (3 * area b h) (area p t) ((h - t) * (h - t))) (# 3 ⊗ (flanged .beam .width-most ⊗ flanged .beam .depth-most) ⊗ moved)
 
-  -- as the program has it, from the two areas
-  pub apart-fits : {x y : ℕ} → x ≡ area b h → y ≡ area p t → 3 * x * y * ((h - t) * (h - t)) ≤ 4805419921875000000
-  apart-fits e e′ = rw (e, e′) apart-most
+  -- the areas, as the program has them
+  pub product-most : {x y : ℕ} → x ≡ area b h → y ≡ area p t → 3 * x * y ≤ 5400000000000
+  product-most e e′ = rw (e, e′) (# 3 ⊗ (flanged .beam .width-most ⊗ flanged .beam .depth-most) ⊗ (overhang-most ⊗ flanged .beam .slab-most))
 
   pub areas-pos : {x : ℕ} (y : ℕ) → x ≡ area b h → 0 < x + y
   areas-pos y e = omega (arith, mul-pos {m = b} {n = h} (flanged .there) (omega (arith, deeper)))
@@ -75,9 +82,6 @@ module _ {b h p t : ℕ} (flanged : Flanged b h p t) where
   -- b·h of b·h + p·t
   share-most : apart b h p t / (area b h + area p t) ≤ 3 * area p t * ((h - t) * (h - t))
   share-most = div-le-of-le-mul _ (omega arith)
-
-  overhang-most : p ≤ 2400
-  overhang-most = omega (arith, deeper, flanged .beam .depth-most, by-below, by-slab)
 
   pub flanged-most : flangedInertia b h p t ≤ 12000000 * cube t
   unfolding flangedInertia inertia

@@ -65,6 +65,12 @@ pub record Part (b h : ℕ) : Type 0 where
   pub width-most : b ≤ 2400
   pub depth-most : h ≤ 1500
 
+-- what is divided in the last term of their inertia, and by what
+pub record Term (apart areas : ℕ) : Type 0 where
+  pub most : apart ≤ 4805419921875000000
+  pub there : 0 < areas
+  pub areas-most : areas ≤ 7200000
+
 -- the sides of a rectangle whose torsion is asked: b by h, f by t, b by h − t, b + f by t
 pub record Sides (a b : ℕ) : Type 0 where
   pub shorter : min a b ≤ 1000

@@ -2,9 +2,9 @@
 use numbers::larger;
 use numbers::smaller;
 ghost use mathlib.Core.Path.{_≡_};
-ghost use Prim.Native.Nat.{_*_, _≤_};
-ghost use Rattle.stiffness.specs.Asked.{Beam, Deeper, Flanged, Part, Sides};
-ghost use Rattle.stiffness.specs.Sections.{area, cube, inertia, torsion, flange, overhang, flangedInertia, edgeTorsion};
+ghost use Prim.Native.Nat.{_*_, _/_, _≤_};
+ghost use Rattle.stiffness.specs.Asked.{Beam, Deeper, Flanged, Part, Sides, Term};
+ghost use Rattle.stiffness.specs.Sections.{area, cube, inertia, torsion, flange, overhang, apart, flangedInertia, edgeTorsion};
 
 pub struct Section {
     pub width: u64,
@@ -35,16 +35,25 @@ impl Section {
         b * (h * h * h)
     }
 
+    // 3·(b·h)·(p·t)·(h − t)²: the largest number on the way.
+    fn apart(self, flange: Section) -> u64
+        requires { ⌜ Flanged (self .width) (self .depth) (flange .width) (flange .depth) ⌝ }
+        ensures { λ r. ⌜ (r ≡ apart (self .width) (self .depth) (flange .width) (flange .depth)) × (r ≤ 4805419921875000000) ⌝ }
+    {
+        let h = self.depth;
+        let t = flange.depth;
+        let below = h - t;
+        let square = below * below;
+        3 * self.area() * flange.area() * square
+    }
+
     // Twelve times the inertia of this beam and the flange beside its upper edge, as one section.
     pub fn with_flange(self, flange: Section) -> u64
         requires { ⌜ Flanged (self .width) (self .depth) (flange .width) (flange .depth) ⌝ }
         ensures { λ r. ⌜ (r ≡ flangedInertia (self .width) (self .depth) (flange .width) (flange .depth)) × (r ≤ 12000000 * cube (flange .depth)) ⌝ }
     {
-        let web = self.area();
-        let more = flange.area();
-        let below = self.depth - flange.depth;
-        let apart = 3 * web * more * (below * below);
-        self.inertia() + flange.inertia() + apart / (web + more)
+        let areas = self.area() + flange.area();
+        self.inertia() + flange.inertia() + last_term(self.apart(flange), areas)
     }
 
     pub fn torsion(self) -> u64
@@ -57,6 +66,13 @@ impl Section {
         let y = larger(a, b);
         x * x * x * (100 * y - 63 * x)
     }
+}
+
+fn last_term(apart: u64, areas: u64) -> u64
+    requires { ⌜ Term apart areas ⌝ }
+    ensures { λ r. ⌜ r ≡ apart / areas ⌝ }
+{
+    apart / areas
 }
 
 // The flange f: what the slab adds to a beam.
