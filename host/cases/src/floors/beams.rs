@@ -181,27 +181,80 @@ fn equal_stiffnesses() -> Vec<Edge> {
     edges
 }
 
-/// "S > 80000" and "8000 < S" in the inner panel alone. Four inner α of 20,000 ask for 125 and so more than
-/// 100, one of them 20,001 does not. Four of 2,000 ask for 4620/33 = 140, one of them 2,001 for 4620·1.1/36.
+/// Three bays each way, with what stands on the inner lines.
+struct Inner {
+    words: &'static str,
+    t: u32,
+    span: u32,
+    column: u32,
+    outer: Beam,
+    on_x: [Beam; 2],
+    on_y: [Beam; 2],
+}
+
+/// All four α are 20,000 and ask for 125.
+const AT_80000: Inner = Inner {
+    words: "S = 80000",
+    t: 100,
+    span: 3_000,
+    column: 1_500,
+    outer: (300, 300),
+    on_x: [(178, 276); 2],
+    on_y: [(178, 276); 2],
+};
+
+/// All four α are 2,000 and ask for 4620/33 = 140.
+const AT_8000: Inner = Inner {
+    words: "S = 8000",
+    t: 140,
+    span: 5_400,
+    column: 780,
+    outer: (300, 230),
+    on_x: [(210, 220); 2],
+    on_y: [(210, 220); 2],
+};
+
+/// One α is 20,001, for which less than 100 will do; they are 20,643 and 19,357, and with the inertia's last
+/// term not rounded down the first would be 20,644; one is 2,001, which asks for 4620·1.1/36.
+const SUMS: [Inner; 5] = [
+    AT_80000,
+    Inner {
+        words: "S = 80001",
+        on_x: [(178, 276), (190, 272)],
+        ..AT_80000
+    },
+    Inner {
+        words: "S = 80000 by rounding down",
+        t: 91,
+        span: 3_500,
+        on_x: [(819, 182); 2],
+        on_y: [(504, 204); 2],
+        ..AT_80000
+    },
+    AT_8000,
+    Inner {
+        words: "S = 8001",
+        on_x: [(210, 220), (256, 210)],
+        ..AT_8000
+    },
+];
+
+/// "S > 80000" and "8000 < S" in the inner panel alone.
 fn alpha_sums() -> Vec<Edge> {
     let mut edges = Vec::new();
-    for (t, span, column, outer, [inner, one_more]) in [
-        (100, 3_000, 1_500, (300, 300), [(178, 276), (190, 272)]),
-        (140, 5_400, 780, (300, 230), [(210, 220), (256, 210)]),
-    ] {
-        for (words, beam) in [("at", inner), ("one past", one_more)] {
-            let floor = Floor {
-                t,
-                cx: column,
-                cy: column,
-                x_spans: vec![span; 3],
-                y_spans: vec![span; 3],
-                x_lines: vec![outer, inner, beam, outer],
-                y_lines: vec![outer, inner, inner, outer],
-                ..Floor::good(3, 3)
-            };
-            edges.push((format!("S {words} the edge, slab of {t}"), floor));
-        }
+    for inner in SUMS {
+        let lines = |[low, high]: [Beam; 2]| vec![inner.outer, low, high, inner.outer];
+        let floor = Floor {
+            t: inner.t,
+            cx: inner.column,
+            cy: inner.column,
+            x_spans: vec![inner.span; 3],
+            y_spans: vec![inner.span; 3],
+            x_lines: lines(inner.on_x),
+            y_lines: lines(inner.on_y),
+            ..Floor::good(3, 3)
+        };
+        edges.push((inner.words.to_string(), floor));
     }
     edges
 }

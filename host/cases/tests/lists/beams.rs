@@ -58,8 +58,10 @@ fn stiffnesses_past_the_limit() {
     assert_eq!(past.max(), Some(3_000 * 3_000));
 }
 
-/// Each beam as outer or inner, with its width, its depth and t.
-fn beams(floor: &Floor) -> Vec<(bool, u32, u32, u32)> {
+/// Whether it is on an outer line, its width, its depth and t.
+type Beam = (bool, u32, u32, u32);
+
+fn beams(floor: &Floor) -> Vec<Beam> {
     let mut beams = Vec::new();
     for lines in [&floor.x_lines, &floor.y_lines] {
         for (line, &(width, depth)) in lines.iter().enumerate() {
@@ -103,7 +105,7 @@ fn sums_at_their_edges() {
         let (x, y) = (x_line_alphas(&floor.bytes), y_line_alphas(&floor.bytes));
         x[1] + x[2] + y[1] + y[2]
     };
-    let floors = described("S ");
+    let floors = described("S = ");
     let found: Vec<_> = floors
         .iter()
         .map(|floor| (sum(floor), judge(&floor.bytes)))
@@ -111,6 +113,7 @@ fn sums_at_their_edges() {
     let right = [
         (80_000, (0, 64)),
         (80_001, (0, 0)),
+        (80_000, (0, 64)),
         (8_000, (0, 0)),
         (8_001, (0, 64)),
     ];
@@ -127,7 +130,7 @@ fn ratios_at_their_edge() {
 }
 
 /// α of a beam over W with no rounding of the inertia: over the beam's area both terms are whole.
-fn alpha_unrounded((outer, b, h, t): (bool, u32, u32, u32), frame_width: u128) -> u128 {
+fn alpha_unrounded((outer, b, h, t): Beam, frame_width: u128) -> u128 {
     let [b, h, t] = [b, h, t].map(u128::from);
     let f = (h - t).min(4 * t);
     let p = if outer { f } else { 2 * f };
@@ -136,16 +139,23 @@ fn alpha_unrounded((outer, b, h, t): (bool, u32, u32, u32), frame_width: u128) -
     10_000 * inertia / (area * frame_width * t.pow(3))
 }
 
-/// "the last term rounded down": W is 3,200 outside and 6,000 inside.
+/// "the last term rounded down": W is 3,200 outside and 6,000 inside, where every line tells; 3,500 inside
+/// where S is 80000 by it, and two lines tell.
 #[test]
 fn inertias_rounded_down() {
-    let bytes = &described("the inertia's last term")[0].bytes;
-    assert_eq!(judge(bytes), (0, 0));
-    let floor = Floor::of(bytes).unwrap();
-    let alphas = [x_line_alphas(bytes), y_line_alphas(bytes)].concat();
-    for (beam, alpha) in beams(&floor).into_iter().zip(alphas) {
-        let width = if beam.0 { 3_200 } else { 6_000 };
-        assert_eq!(alpha_unrounded(beam, width), alpha + 1, "{beam:?}");
+    for (start, outside, inside, telling) in [
+        ("the inertia's last term", 3_200, 6_000, 8),
+        ("S = 80000 by rounding down", 2_500, 3_500, 2),
+    ] {
+        let bytes = &described(start)[0].bytes;
+        let alphas = [x_line_alphas(bytes), y_line_alphas(bytes)].concat();
+        let beams = beams(&Floor::of(bytes).unwrap());
+        let tells = |(beam, alpha): &(Beam, u128)| {
+            let width = if beam.0 { outside } else { inside };
+            alpha_unrounded(*beam, width) == alpha + 1
+        };
+        let found = beams.into_iter().zip(alphas).filter(tells).count();
+        assert_eq!(found, telling, "{start}");
     }
 }
 
