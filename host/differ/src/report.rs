@@ -52,8 +52,12 @@ fn opened(words: &str, counts: &Counts<Opened>) -> String {
 }
 
 fn floors(tally: &Tally) -> String {
+    let beams = tally.beams.iter();
+    let beams: Vec<String> = beams
+        .map(|(sort, count)| format!("{sort:?}: {}", grouped(count)))
+        .collect();
     format!(
-        "floors: {}\n{}{}  limits broken: {}\n  clear floors: {}; {} choices of sides\n  bays: {} pairs, 12 by 12 {} times\n",
+        "floors: {}\n{}{}  limits broken: {}\n  clear floors: {}; {} choices of sides\n  bays: {} pairs, 12 by 12 {} times\n  beams: {}\n",
         grouped(tally.floors()),
         opened("undamaged", &tally.undamaged),
         opened("damaged", &tally.damaged),
@@ -62,6 +66,7 @@ fn floors(tally: &Tally) -> String {
         tally.sides.kinds(),
         tally.bays.kinds(),
         grouped(tally.bays.of(&(12, 12))),
+        beams.join(", "),
     )
 }
 
