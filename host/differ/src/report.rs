@@ -52,10 +52,6 @@ fn opened(words: &str, counts: &Counts<Opened>) -> String {
 }
 
 fn floors(tally: &Tally) -> String {
-    let beams = tally.beams.iter();
-    let beams: Vec<String> = beams
-        .map(|(sort, count)| format!("{sort:?}: {}", grouped(count)))
-        .collect();
     format!(
         "floors: {}\n{}{}  limits broken: {}\n  clear floors: {}; {} choices of sides\n  bays: {} pairs, 12 by 12 {} times\n  beams: {}\n",
         grouped(tally.floors()),
@@ -66,7 +62,7 @@ fn floors(tally: &Tally) -> String {
         tally.sides.kinds(),
         tally.bays.kinds(),
         grouped(tally.bays.of(&(12, 12))),
-        beams.join(", "),
+        listed(&tally.beams),
     )
 }
 

@@ -1,6 +1,7 @@
 //! What was compared, by sorts.
 
 use std::collections::BTreeMap;
+use std::fmt;
 
 /// How many there were of each.
 #[derive(Clone, Debug, PartialEq, Eq)]
@@ -75,6 +76,19 @@ pub enum BeamSort {
     /// With beams everywhere: S within a hundredth of 8000 or 80000 and not past it, or past it.
     SumAt(u128),
     SumPast(u128),
+}
+
+impl fmt::Display for BeamSort {
+    fn fmt(&self, f: &mut fmt::Formatter) -> fmt::Result {
+        match self {
+            BeamSort::Shallow => write!(f, "h = t + 1"),
+            BeamSort::FlangeBelow => write!(f, "h − t below 4t"),
+            BeamSort::FlangeEqual => write!(f, "h − t = 4t"),
+            BeamSort::FlangeAbove => write!(f, "h − t above 4t"),
+            BeamSort::SumAt(edge) => write!(f, "S up to {edge}"),
+            BeamSort::SumPast(edge) => write!(f, "S past {edge}"),
+        }
+    }
 }
 
 /// What a change did.

@@ -53,7 +53,7 @@ fn rare_beams(tally: &Tally) -> Vec<String> {
     let rare = OFTEN
         .iter()
         .filter(|sort| 100 * tally.beams.of(sort) <= floors);
-    rare.map(|sort| format!("beams, one floor of a hundred: {sort:?}"))
+    rare.map(|sort| format!("one floor of a hundred: {sort}"))
         .collect()
 }
 

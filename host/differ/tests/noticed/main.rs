@@ -164,6 +164,8 @@ fn what_never_came_up() {
         "a panel query: refusal 10",
         "12 bays each way",
         "some choice of sides",
+        "one floor of a hundred: h − t = 4t",
+        "one floor of a hundred: S past 80000",
         "a change: Mended",
         "a change: Refused(9)",
         "a change: Refused(13)",
