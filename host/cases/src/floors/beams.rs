@@ -43,8 +43,8 @@ const fn even(words: &'static str, t: u32, stiff: Beams, weak: Beams) -> Even {
     }
 }
 
-/// "f = min(h − t, 4t)": under 100 a beam of depth 500 has both. The widest and deepest beam is as stiff as
-/// an inner line can be, so that alone on an outer line it is in one bay.
+/// "f = min(h − t, 4t)": under 100 both are 400 for a beam 500 deep. No inner beam has the α of the widest and
+/// deepest one on an outer line, which is why that stands in a single bay, where all lines are outer.
 const EVEN: [Even; 12] = [
     even(
         "some beams",

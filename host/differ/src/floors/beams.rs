@@ -21,15 +21,19 @@ const WAYS: [(&str, Way); 4] = [
     ("shallow beams", shallow),
 ];
 
-/// A floor with beams everywhere at an edge, and just past it.
+/// A floor with beams everywhere at an edge, and just past it, along x or along y.
 pub fn edge(draw: &mut Draw) -> (&'static str, Floor, Floor) {
     let (words, way) = draw.one_of(&WAYS);
-    loop {
+    let (at, past) = loop {
         let bays = (draw.between(3, 4), draw.between(3, 4));
         let floor = of_bays(draw, bays, Layout::Everywhere);
-        if let Some((at, past)) = way(draw, &floor) {
-            return (words, at, past);
+        if let Some(edge) = way(draw, &floor) {
+            break edge;
         }
+    };
+    match draw.percent(50) {
+        true => (words, at.transposed(), past.transposed()),
+        false => (words, at, past),
     }
 }
 
@@ -87,13 +91,15 @@ pub fn stiffness(draw: &mut Draw, floor: &Floor) -> Option<(Floor, Floor)> {
     edge.map(|(passing, breaking)| (with_depth(passing), with_depth(breaking)))
 }
 
-/// "f = min(h − t, 4t)": x lines at h = 5t or beside it, and the shallowest beams on y lines that do not
-/// break 32.
+/// "f = min(h − t, 4t)": x lines at h = 5t, beside it or well past it, and the shallowest beams on y lines that
+/// do not break 32.
 fn flange(draw: &mut Draw, floor: &Floor) -> Option<(Floor, Floor)> {
-    let depth = 5 * floor.t + draw.between(0, 2) - 1;
-    if depth > 1_500 {
+    let equal = 5 * floor.t;
+    if equal >= 1_500 {
         return None;
     }
+    let deeper = draw.between(equal + 1, 1_500);
+    let depth = draw.one_of(&[equal - 1, equal, equal, equal + 1, deeper, deeper]);
     let with_depth = |of_y_lines| {
         let mut floor = of_depth(floor, depth);
         set_depth(&mut floor.y_lines, of_y_lines);
