@@ -1,4 +1,6 @@
 // Document 004: General Example 1, of which the moments are asked of the whole floor, and the flat slab with capitals.
+use crate::alphas::inner_alpha;
+use crate::alphas::outer_alpha;
 use crate::beams::thousands;
 use crate::compare::formula;
 use crate::edge::edge_strip;
@@ -14,6 +16,7 @@ use strips::strip::between;
 use strips::strip::inner_negative;
 use strips::strip::outer_negative;
 ghost use Prim.Native.Nat.{_≤_};
+ghost use Rattle.figures.specs.Ranges.{Sums};
 
 // T of the outer beams B5, across the frame, and B1.
 fn b5() -> u64
@@ -45,12 +48,29 @@ fn torsions() {
     formula(417, 7360, torsion_ratio(b1(), 6000, 180));
 }
 
-// The panels A to D, by the document's own α, whose factor is another.
-fn panels() {
-    formula(408, 9700, unlikeness(38230 + 24440, 80, 82670 + 32590, 60));
-    formula(409, 7540, unlikeness(24440 + 24440, 80, 82670 + 32590, 60));
-    formula(410, 17100, unlikeness(38230 + 24440, 80, 32590 + 32590, 60));
-    formula(411, 13330, unlikeness(24440 + 24440, 80, 32590 + 32590, 60));
+// p/q of a panel and the mean α of its four lines, each after its number and as it is printed; ax and ay are the sums of α of its two x lines
+// and two y lines.
+fn panel(ratio: u32, their_ratio: u32, mean: u32, their_mean: u32, ax: u64, ay: u64)
+    requires { ⌜ Sums ax 80 ay 60 ⌝ }
+{
+    formula(ratio, their_ratio, unlikeness(ax, 80, ay, 60));
+    formula(mean, their_mean, (ax + ay) / 4);
+}
+
+// α of the outer beams B1 and B5 and the inner ones B3 and B7, and the panels A to D.
+fn stiffnesses() {
+    let b1 = outer_alpha(Section::of(300, 600), 8000, 600, 180);
+    let b3 = inner_alpha(Section::of(300, 600), 8000, 600, 180);
+    let b5 = outer_alpha(Section::of(300, 700), 6000, 600, 180);
+    let b7 = inner_alpha(Section::of(300, 600), 6000, 600, 180);
+    formula(454, 82670, b5);
+    formula(455, 24440, b3);
+    formula(456, 32590, b7);
+    formula(457, 38230, b1);
+    panel(408, 9700, 458, 44480, b1 + b3, b5 + b7);
+    panel(409, 7540, 459, 41040, b3 + b3, b5 + b7);
+    panel(410, 17100, 460, 31960, b1 + b3, b7 + b7);
+    panel(411, 13330, 461, 28520, b3 + b3, b7 + b7);
 }
 
 fn widths() {
@@ -82,7 +102,7 @@ fn capitals() {
 }
 
 pub fn all() {
-    panels();
+    stiffnesses();
     torsions();
     widths();
     parts();

@@ -1,10 +1,10 @@
 // Document 000, Examples (4) to (6): flat plates. Their moments are asked of whole floors.
+use crate::alphas::outer_alpha;
 use crate::areas::grade_420;
 use crate::compare::figure;
 use crate::compare::formula;
 use crate::edge::edge_strip;
 use crate::edge::edge_width;
-use stiffness::line::alpha;
 use stiffness::line::column_strip_width;
 use stiffness::section::Section;
 use strips::span::clear_length;
@@ -17,7 +17,7 @@ fn along_y() {
     formula(
         155,
         31900,
-        alpha(true, Section::of(300, 600), edge_width(7000, 600), 200),
+        outer_alpha(Section::of(300, 600), 7000, 600, 200),
     );
 }
 

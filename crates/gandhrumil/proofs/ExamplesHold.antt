@@ -24,7 +24,7 @@ use Rattle.spans.specs.Record.{betweenStrips, endStrips, outerPart, percentsOf,
 use Rattle.spans.specs.Views.{highEnd, lineView, lowEnd, outerEnd, viewOf}
 use Rattle.spans.specs.Works.{spanWork}
 use Rattle.stiffness.specs.Lines.{alpha, columnStripWidth, frameWidth, transverseSpan}
-use Rattle.stiffness.specs.Sections.{edgeTorsion, flange, inertia, torsion}
+use Rattle.stiffness.specs.Sections.{edgeTorsion, flange, flangedInertia, inertia, torsion}
 use Rattle.strips.specs.EndTable.{endPercent, endRow}
 use Rattle.strips.specs.Moments.{clearLength, staticMoment}
 use Rattle.strips.specs.Ratios.{spanRatio, stiffnessRatio, torsionRatio}
@@ -51,7 +51,7 @@ first = record { way = X; line = 0; span = 0 }
 
 computed : (refusal oneBay ≡ 0) × (verdict oneBay ≡ 1) × (refusal garage ≡ 0) × (verdict garage ≡ 0) × (changeRefusal garage lighter ≡ 0)
     × (refusal (changed garage lighter) ≡ 0) × (verdict (changed garage lighter) ≡ 0) × (recordOf (viewIn garage first) ≡ firstSpan) × (bays garage X ≡ 5)
-unfolding changeOk changed changeChecks changeRefusal countOk everyRecord firstOk floorChecks kindOk lengthOk recordOk refusal valueChecks beamsOk keeps kept keptAlong layoutOf adjoining astray astrayColumn few heavy slenderPanel somePair sumOf thinPanel unbalanced unequalPanel uneven verdict below clearSpan lineAlpha outerPanel pairAlpha panelPlace panelThickness panelView slabOf tried put until le16 le32 bays offset value changeable countOf startOf total unlistedZero beamOk columnOk columnsOk loadsOk materialsOk offsetOk sidesOk sizesOk spanOk valuesOk betweenStrips endStrips outerPart percentsOf recordOf highEnd lineView lowEnd outerEnd viewOf spanWork alpha columnStripWidth frameWidth transverseSpan edgeTorsion flange inertia torsion endPercent endRow clearLength staticMoment spanRatio stiffnessRatio torsionRatio beamShare outerNegative part split divisor leastThickness middling stiff tabled
+unfolding changeOk changed changeChecks changeRefusal countOk everyRecord firstOk floorChecks kindOk lengthOk recordOk refusal valueChecks beamsOk keeps kept keptAlong layoutOf adjoining astray astrayColumn few heavy slenderPanel somePair sumOf thinPanel unbalanced unequalPanel uneven verdict below clearSpan lineAlpha outerPanel pairAlpha panelPlace panelThickness panelView slabOf tried put until le16 le32 bays offset value changeable countOf startOf total unlistedZero beamOk columnOk columnsOk loadsOk materialsOk offsetOk sidesOk sizesOk spanOk valuesOk betweenStrips endStrips outerPart percentsOf recordOf highEnd lineView lowEnd outerEnd viewOf spanWork alpha columnStripWidth frameWidth transverseSpan edgeTorsion flange flangedInertia inertia torsion endPercent endRow clearLength staticMoment spanRatio stiffnessRatio torsionRatio beamShare outerNegative part split divisor leastThickness middling stiff tabled
 computed = (refl, refl, refl, refl, refl, refl, refl, refl, refl)
 
 -- ---- from that

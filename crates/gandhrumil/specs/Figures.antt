@@ -32,7 +32,7 @@ unfoldable pub figures : List Figure
 figures =
     figure "Mo of D 7,000, L 2,500, W 3,800, ln 4,700" (staticMoment 7000 2500 3800 4700) 130111
     ∷ figure "Mo of D 2,500, L 3,000, W 5,000, ln 5,600" (staticMoment 2500 3000 5000 5600) 152880
-    ∷ figure "α, inside beam 350×700, W 6,000, t 165" (alpha false 350 700 6000 165) 89081
+    ∷ figure "α, inside beam 350×700, W 6,000, t 165" (alpha false 350 700 6000 165) 79013
     ∷ figure "T, outer 300×600, t 180" (edgeTorsion 300 600 180) 1288509120000
     ∷ figure "B of that T, l2 6,000, t 180" (torsionRatio (edgeTorsion 300 600 180) 6000 180) 7364
     ∷ figure "between at A 10000, R 7894" (between 10000 7894) 8131

@@ -1,10 +1,11 @@
 -- What leaves ask of their callers. A reader who only wants to know what the program does need not read this file.
 -- The numbers of an accepted floor have these ranges: "The floor file", refusals 5 to 7.
 -- Assumes nothing.
-use Prim.Native.Nat.{ℕ, _%_, _≤_, _<_, min, max}
+use Prim.Native.Nat.{ℕ, _*_, _%_, _≤_, _<_, min, max}
 use mathlib.Core.Bool.{Bool, cond}
 use mathlib.Core.Logic.{_⊎_}
 use mathlib.Core.Path.{_≡_}
+use Rattle.stiffness.specs.Sections.{flange}
 
 -- a span: 1,000..12,000, a multiple of 20
 pub record Span (l : ℕ) : Type 0 where
@@ -53,7 +54,24 @@ pub record Beam (b h t : ℕ) : Type 0 where
   pub slab-least : 90 ≤ t
   pub slab-most : t ≤ 500
 
--- the sides of a rectangle that `Beam` gives: b by h, f by t, b by h − t, b + f by t
+-- a beam that is there, with a flange that adds p at its top
+pub record Flanged (b h p t : ℕ) : Type 0 where
+  pub beam : Beam b h t
+  pub there : 0 < b
+  pub most : p ≤ 2 * flange h t
+
+-- the sides of its two rectangles, b by h and p by t
+pub record Part (b h : ℕ) : Type 0 where
+  pub width-most : b ≤ 2400
+  pub depth-most : h ≤ 1500
+
+-- what is divided in the last term of their inertia, and by what
+pub record Term (apart areas : ℕ) : Type 0 where
+  pub most : apart ≤ 4805419921875000000
+  pub there : 0 < areas
+  pub areas-most : areas ≤ 7200000
+
+-- the sides of a rectangle whose torsion is asked: b by h, f by t, b by h − t, b + f by t
 pub record Sides (a b : ℕ) : Type 0 where
   pub shorter : min a b ≤ 1000
   pub longer : max a b ≤ 2200

@@ -1,3 +1,4 @@
 pub mod Asked
 pub mod Sections
+pub mod Flanged
 pub mod Lines

@@ -3,7 +3,7 @@
 -- Assumes nothing.
 use Prim.Native.Nat.{ℕ, _+_, _*_, _/_, min}
 use mathlib.Core.Bool.{Bool, cond}
-use Rattle.stiffness.specs.Sections.{cube, ofBeam, inertia}
+use Rattle.stiffness.specs.Sections.{cube, ofBeam, overhang, flangedInertia}
 
 -- the column across, of which a frame has half past an outer line
 abbrev pub past : Bool → ℕ → ℕ
@@ -13,13 +13,9 @@ past outer column = cond outer column 0
 unfoldable pub frameWidth : Bool → ℕ → ℕ → ℕ → ℕ
 frameWidth outer below above column = (below + above + past outer column) / 2
 
--- "k = 4 inside, 3 outside"
-abbrev pub factor : Bool → ℕ
-factor outer = cond outer 3 4
-
--- "α is in ten-thousandths, rounded down: 10000·k·b·h³/(2·W·t³)"; "0 without a beam"
+-- "α is in ten-thousandths, rounded down"; "0 without a beam"; 02, Two: "α becomes 10000 times that over W·t³, rounded down"
 unfoldable pub alpha : Bool → ℕ → ℕ → ℕ → ℕ → ℕ
-alpha outer b h W t = ofBeam b (10000 * factor outer * inertia b h / (2 * W * cube t))
+alpha outer b h W t = ofBeam b (10000 * flangedInertia b h (overhang outer h t) t / (W * cube t))
 
 -- "l2 is the mean of adjoining spans inside and the whole panel span on an outer line"
 unfoldable pub transverseSpan : Bool → ℕ → ℕ → ℕ

@@ -1,10 +1,11 @@
 // The widths across a line, and its stiffness.
 use crate::section::Section;
+use crate::section::overhang;
 use numbers::smaller;
 ghost use mathlib.Core.Path.{_≡_};
 ghost use Prim.Native.Nat.{_≤_};
 ghost use Rattle.stiffness.specs.Asked.{Beam, Beside, Frame, Line};
-ghost use Rattle.stiffness.specs.Lines.{past, frameWidth, factor, alpha, transverseSpan, columnStripWidth};
+ghost use Rattle.stiffness.specs.Lines.{past, frameWidth, alpha, transverseSpan, columnStripWidth};
 
 fn past(outer: bool, column: u64) -> u64
     ensures { λ r. ⌜ r ≡ past outer column ⌝ }
@@ -20,12 +21,6 @@ pub fn frame_width(outer: bool, below: u64, above: u64, column: u64) -> u64
     (below + above + past(outer, column)) / 2
 }
 
-fn factor(outer: bool) -> u64
-    ensures { λ r. ⌜ (r ≡ factor outer) × (r ≤ 4) ⌝ }
-{
-    if outer { 3 } else { 4 }
-}
-
 // α, in ten-thousandths.
 pub fn alpha(outer: bool, beam: Section, width: u64, t: u64) -> u64
     requires { ⌜ Beam (beam .width) (beam .depth) t × Frame width ⌝ }
@@ -35,7 +30,8 @@ pub fn alpha(outer: bool, beam: Section, width: u64, t: u64) -> u64
     if b == 0 {
         return 0;
     }
-    10000 * factor(outer) * beam.inertia() / (2 * width * (t * t * t))
+    let flange = Section::of(overhang(outer, beam.depth, t), t);
+    10000 * beam.with_flange(flange) / (width * (t * t * t))
 }
 
 // l2

@@ -45,20 +45,29 @@ impl Across {
     }
 }
 
-/// "10000·k·b·h³/(2·W·t³), k = 4 inside, 3 outside"; "0 without a beam".
+/// Twelve times the inertia of a beam with its flanges (02, Two): "b·h³ + p·t³ + 3·(b·h)·(p·t)·(h − t)²/(b·h + p·t),
+/// the last term rounded down". Its dividend is largest inside for 1,000 by 1,500 under 375, about a quarter of 2⁶⁴.
+fn twelve_inertias(b: u64, h: u64, t: u64, flanges: u64) -> u64 {
+    let below = h - t;
+    let p = flanges * flange(h, t);
+    let (web, wings) = (b * h, p * t);
+    web * h * h + wings * t * t + 3 * web * wings * below * below / (web + wings)
+}
+
+/// "α becomes 10000 times that over W·t³, rounded down."; "0 without a beam".
 pub fn alpha(floor: &Floor, way: usize, line: usize) -> u64 {
     let beam = floor.beams(way)[line];
     if !beam.is_there() {
         return 0;
     }
     let across = Across::of(floor, way, line);
-    let k = if across.is_outer() { 3 } else { 4 };
+    let flanges = if across.is_outer() { 1 } else { 2 };
     let (b, h, t) = (
         u64::from(beam.width),
         u64::from(beam.depth),
         u64::from(floor.t),
     );
-    10_000 * k * b * h.pow(3) / (u64::from(across.twice_width()) * t.pow(3))
+    20_000 * twelve_inertias(b, h, t, flanges) / (u64::from(across.twice_width()) * t.pow(3))
 }
 
 /// The α of every line, by the direction that it runs along.
@@ -82,13 +91,18 @@ fn rectangle(one: u64, other: u64) -> u64 {
     x.pow(3) * (100 * y - 63 * x)
 }
 
+/// "flange f = min(h − t, 4t)"
+fn flange(h: u64, t: u64) -> u64 {
+    (h - t).min(4 * t)
+}
+
 /// "Torsion of an outer beam"
 pub fn torsion(beam: Beam, t: u64) -> u64 {
     if !beam.is_there() {
         return 0;
     }
     let (b, h) = (u64::from(beam.width), u64::from(beam.depth));
-    let flange = (h - t).min(4 * t);
+    let flange = flange(h, t);
     let upright = rectangle(b, h) + rectangle(flange, t);
     let lying = rectangle(b, h - t) + rectangle(b + flange, t);
     upright.max(lying)

@@ -1,6 +1,7 @@
 //! Floors to hold the printing program against. What has to be printed for them is worked out, never
 //! written here.
 
+mod beams;
 pub mod drawn;
 mod edges;
 pub mod long;

@@ -1,5 +1,6 @@
 //! Floors, each opened on a lent table and a governing slice of any numbers, and asked for every panel.
 
+mod beams;
 mod damage;
 mod drawn;
 mod edges;
@@ -21,8 +22,9 @@ use reference::opening::open;
 use reference::refusals::{refusal, SUCCESS};
 use reference::{governing, span, table};
 
-/// Floors in a case: as drawn, at the edge of a limit, past it, with a tie, damaged.
-pub const FLOORS: u64 = 4 + 1 + 1 + 1 + 2;
+/// Floors in a case: as drawn, at the edge of a limit and past it, at an edge of beams and past it, with a tie,
+/// damaged.
+pub const FLOORS: u64 = 4 + 2 + 2 + 1 + 2;
 
 pub fn case(case: &mut Case) -> Result<(), String> {
     let drawn: [_; 4] = std::array::from_fn(|_| floor(&mut case.draw));
@@ -32,6 +34,9 @@ pub fn case(case: &mut Case) -> Result<(), String> {
     let (limit, at, past) = edges::edge(&mut case.draw, &drawn[0]);
     undamaged(case, &format!("at the edge, {limit}"), &at.bytes())?;
     undamaged(case, &format!("past the edge, {limit}"), &past.bytes())?;
+    let (edge, at, past) = beams::edge(&mut case.draw);
+    undamaged(case, &format!("beams at the edge, {edge}"), &at.bytes())?;
+    undamaged(case, &format!("beams past the edge, {edge}"), &past.bytes())?;
     let tied = tied::floor(&mut case.draw);
     undamaged(case, "with a tie", &tied.bytes())?;
     for floor in &drawn[2..] {
@@ -108,6 +113,9 @@ fn counted(tally: &mut Tally, floor: &[u8], (refused, verdict): (u128, u128)) ->
     }
     let Sizes { nx, ny, .. } = sizes(floor);
     tally.bays.add((nx, ny));
+    beams::sorts(floor)
+        .into_iter()
+        .for_each(|sort| tally.beams.add(sort));
     count_limits(&mut tally.limits, verdict);
     if verdict != 0 {
         return Opened::Broken;

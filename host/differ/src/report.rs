@@ -53,7 +53,7 @@ fn opened(words: &str, counts: &Counts<Opened>) -> String {
 
 fn floors(tally: &Tally) -> String {
     format!(
-        "floors: {}\n{}{}  limits broken: {}\n  clear floors: {}; {} choices of sides\n  bays: {} pairs, 12 by 12 {} times\n",
+        "floors: {}\n{}{}  limits broken: {}\n  clear floors: {}; {} choices of sides\n  bays: {} pairs, 12 by 12 {} times\n  beams: {}\n",
         grouped(tally.floors()),
         opened("undamaged", &tally.undamaged),
         opened("damaged", &tally.damaged),
@@ -62,6 +62,7 @@ fn floors(tally: &Tally) -> String {
         tally.sides.kinds(),
         tally.bays.kinds(),
         grouped(tally.bays.of(&(12, 12))),
+        listed(&tally.beams),
     )
 }
 

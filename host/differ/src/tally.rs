@@ -1,6 +1,7 @@
 //! What was compared, by sorts.
 
 use std::collections::BTreeMap;
+use std::fmt;
 
 /// How many there were of each.
 #[derive(Clone, Debug, PartialEq, Eq)]
@@ -63,6 +64,33 @@ pub enum Opened {
     Refused(u128),
 }
 
+/// What decides how stiff a beam's flange is, and how stiff beams are to be (02, Two).
+#[derive(Clone, Copy, Debug, PartialEq, Eq, PartialOrd, Ord)]
+pub enum BeamSort {
+    /// h = t + 1
+    Shallow,
+    /// h − t below 4t, equal to it, above it.
+    FlangeBelow,
+    FlangeEqual,
+    FlangeAbove,
+    /// With beams everywhere: S within a hundredth of 8000 or 80000 and not past it, or past it.
+    SumAt(u128),
+    SumPast(u128),
+}
+
+impl fmt::Display for BeamSort {
+    fn fmt(&self, f: &mut fmt::Formatter) -> fmt::Result {
+        match self {
+            BeamSort::Shallow => write!(f, "h = t + 1"),
+            BeamSort::FlangeBelow => write!(f, "h − t below 4t"),
+            BeamSort::FlangeEqual => write!(f, "h − t = 4t"),
+            BeamSort::FlangeAbove => write!(f, "h − t above 4t"),
+            BeamSort::SumAt(edge) => write!(f, "S up to {edge}"),
+            BeamSort::SumPast(edge) => write!(f, "S past {edge}"),
+        }
+    }
+}
+
 /// What a change did.
 #[derive(Clone, Copy, Debug, PartialEq, Eq, PartialOrd, Ord)]
 pub enum Step {
@@ -92,6 +120,8 @@ pub struct Tally {
     /// Of the floors that are not refused: the limits that they break, and bays.
     pub limits: Counts<u128>,
     pub bays: Counts<(u128, u128)>,
+    /// And what was met of their beams, once for each floor.
+    pub beams: Counts<BeamSort>,
     /// Of the clear ones.
     pub layouts: Counts<&'static str>,
     pub sides: Counts<u128>,
@@ -117,6 +147,7 @@ impl Tally {
         self.damaged.merge(other.damaged);
         self.limits.merge(other.limits);
         self.bays.merge(other.bays);
+        self.beams.merge(other.beams);
         self.layouts.merge(other.layouts);
         self.sides.merge(other.sides);
         self.panels.merge(other.panels);

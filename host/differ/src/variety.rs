@@ -1,6 +1,6 @@
 //! What a comparison should have met and has not: a generator that decays is noticed.
 
-use crate::tally::{Before, Counts, Opened, Step, Tally};
+use crate::tally::{BeamSort, Before, Counts, Opened, Step, Tally};
 use cases::runs::changes::KINDS;
 use std::collections::BTreeSet;
 
@@ -36,6 +36,27 @@ fn missing_bays(tally: &Tally) -> Vec<String> {
 const SIDES: usize = 81;
 const LAYOUTS: usize = 3;
 
+/// Each in one floor of a hundred or more.
+const OFTEN: [BeamSort; 8] = [
+    BeamSort::Shallow,
+    BeamSort::FlangeBelow,
+    BeamSort::FlangeEqual,
+    BeamSort::FlangeAbove,
+    BeamSort::SumAt(8_000),
+    BeamSort::SumPast(8_000),
+    BeamSort::SumAt(80_000),
+    BeamSort::SumPast(80_000),
+];
+
+fn rare_beams(tally: &Tally) -> Vec<String> {
+    let floors = tally.undamaged.total();
+    let rare = OFTEN
+        .iter()
+        .filter(|sort| 100 * tally.beams.of(sort) <= floors);
+    rare.map(|sort| format!("one floor of a hundred: {sort}"))
+        .collect()
+}
+
 pub fn floors(tally: &Tally) -> Vec<String> {
     let refused = |number| Opened::Refused(number);
     let clear = tally.undamaged.of(&Opened::Clear);
@@ -60,6 +81,7 @@ pub fn floors(tally: &Tally) -> Vec<String> {
         unless(tally.layouts.kinds() == LAYOUTS, "a layout"),
         unless(tally.sides.kinds() == SIDES, "some choice of sides"),
         missing_bays(tally),
+        rare_beams(tally),
         unless(
             tally.floor_addresses.kinds() == 16,
             "a floor at each of 16 addresses",

@@ -28,20 +28,28 @@ pub fn frame_width(adjoining: Adjoining) -> u128 {
     }
 }
 
-/// "α is in ten-thousandths, rounded down: 10000·k·b·h³/(2·W·t³)"
+/// "flange f = min(h − t, 4t)", of the torsion (01) and of the inertia (02, Two).
+pub fn flange(depth: u128, t: u128) -> u128 {
+    (depth - t).min(4 * t)
+}
+
+/// "With p = f outside and 2f inside, twelve times the inertia is b·h³ + p·t³ +
+/// 3·(b·h)·(p·t)·(h − t)²/(b·h + p·t), the last term rounded down." (02, Two) For a line that has a beam.
+pub fn twelve_inertias(line: Line, t: u128) -> u128 {
+    let (b, h) = (line.width, line.depth);
+    let f = flange(h, t);
+    let p = if line.outer { f } else { 2 * f };
+    let (web, flanges) = (b * h, p * t);
+    b * h.pow(3) + p * t.pow(3) + 3 * web * flanges * (h - t).pow(2) / (web + flanges)
+}
+
+/// "α becomes 10000 times that over W·t³, rounded down." (02, Two)
 pub fn alpha(line: Line, frame_width: u128, t: u128) -> u128 {
-    // "0 without a beam"
+    // "0 without a beam" (01)
     if !line.has_beam() {
         return 0;
     }
-    // "k = 4 inside, 3 outside (the factors 2 and 1.5 of document 000)"
-    let k = if line.outer { 3 } else { 4 };
-    10000 * k * line.width * line.depth.pow(3) / (2 * frame_width * t.pow(3))
-}
-
-/// "flange f = min(h − t, 4t)"
-pub fn flange(depth: u128, t: u128) -> u128 {
-    (depth - t).min(4 * t)
+    10000 * twelve_inertias(line, t) / (frame_width * t.pow(3))
 }
 
 /// "Each rectangle, x the shorter side, gives x³(100y − 63x)."

@@ -32,6 +32,7 @@ pub fn figures() -> Vec<Figure> {
         beams(),
         plates(),
         thicknesses(),
+        stiffnesses(),
         general(),
         capitals(),
     ]
@@ -159,7 +160,31 @@ fn thicknesses() -> Vec<Figure> {
     ]
 }
 
-/// Document 004, General Example 1.
+/// Document 004, General Example 1: α, and of each panel p/q and the mean α.
+fn stiffnesses() -> Vec<Figure> {
+    let b1 = alpha(beam(true, 300, 600), frame_width(outer(8_000, 600)), 180);
+    let b3 = alpha(beam(false, 300, 600), frame_width(inside(8_000)), 180);
+    let b5 = alpha(beam(true, 300, 700), frame_width(outer(6_000, 600)), 180);
+    let b7 = alpha(beam(false, 300, 600), frame_width(inside(6_000)), 180);
+    let ratio = |along_x, along_y| unlikeness(along_x, 8_000, along_y, 6_000);
+    let mean = |along_x, along_y| (along_x + along_y) / 4;
+    vec![
+        figure(454, 82_670, b5),
+        figure(455, 24_440, b3),
+        figure(456, 32_590, b7),
+        figure(457, 38_230, b1),
+        figure(408, 9_700, ratio(b1 + b3, b5 + b7)),
+        figure(458, 44_480, mean(b1 + b3, b5 + b7)),
+        figure(409, 7_540, ratio(b3 + b3, b5 + b7)),
+        figure(459, 41_040, mean(b3 + b3, b5 + b7)),
+        figure(410, 17_100, ratio(b1 + b3, b7 + b7)),
+        figure(460, 31_960, mean(b1 + b3, b7 + b7)),
+        figure(411, 13_330, ratio(b3 + b3, b7 + b7)),
+        figure(461, 28_520, mean(b3 + b3, b7 + b7)),
+    ]
+}
+
+/// Document 004, General Example 1: torsion, widths and parts.
 fn general() -> Vec<Figure> {
     let b5 = torsion(beam(true, 300, 700), 180);
     let b1 = torsion(beam(true, 300, 600), 180);
@@ -168,12 +193,7 @@ fn general() -> Vec<Figure> {
     let width = frame_width(outer(8_000, 600));
     let strip = column_strip_width(6_000, outer(8_000, 600));
     let through = |flange, web| rectangle_torsion(flange, 180) + rectangle_torsion(300, web);
-    let panel = |along_x, along_y| unlikeness(along_x, 8_000, along_y, 6_000);
     vec![
-        figure(408, 9_700, panel(38_230 + 24_440, 82_670 + 32_590)),
-        figure(409, 7_540, panel(24_440 + 24_440, 82_670 + 32_590)),
-        figure(410, 17_100, panel(38_230 + 24_440, 32_590 + 32_590)),
-        figure(411, 13_330, panel(24_440 + 24_440, 32_590 + 32_590)),
         figure(412, 4_353_000, thousands(through(820, 520))),
         figure(413, 5_191_000, thousands(b5)),
         figure(414, 3_258_000, thousands(through(720, 420))),

@@ -88,7 +88,7 @@ fn column(draw: &mut Draw, spans: &[u32]) -> u32 {
 }
 
 /// No n is below 28, and beams only make a panel thinner; 125 is the least of all but stiff beams.
-fn thick(x_spans: &[u32], y_spans: &[u32]) -> u32 {
+pub fn thick(x_spans: &[u32], y_spans: &[u32]) -> u32 {
     let longest = *x_spans.iter().chain(y_spans).max().expect("a bay");
     longest.div_ceil(28).max(125)
 }

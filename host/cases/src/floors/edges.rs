@@ -1,5 +1,6 @@
 //! Floors at the edge of a limit and just past it: "equality always passes".
 
+use super::beams::{self, Edge};
 use super::drawn::{self, Wanted};
 use super::{Described, LAYOUTS};
 use crate::draw::Draw;
@@ -7,17 +8,14 @@ use floor::Floor;
 use reference::layout::Layout;
 use reference::verdict::{directions_are_too_unlike, judge};
 
-type Edge = (String, Floor);
-
 pub fn floors() -> Vec<Described> {
     let edges = [
         panel_lengths(),
         neighbours(),
         offsets(),
         loads(),
-        equal_stiffnesses(),
+        beams::edges(),
         drawn_stiffnesses(),
-        alpha_sums(),
         thicknesses(),
     ];
     let mut floors = Vec::new();
@@ -100,42 +98,6 @@ fn loads() -> Vec<Edge> {
     .collect()
 }
 
-/// Beams of twice the slab's depth and columns of half a span: α is 160000·b over the span across, on
-/// outer lines as on inner ones.
-fn even(spans: (u32, u32), widths: (u32, u32), t: u32) -> Floor {
-    let (x_span, y_span) = spans;
-    Floor {
-        t,
-        cx: x_span / 2,
-        cy: y_span / 2,
-        x_spans: vec![x_span; 3],
-        y_spans: vec![y_span; 4],
-        x_lines: vec![(widths.0, 2 * t); 5],
-        y_lines: vec![(widths.1, 2 * t); 4],
-        ..Floor::good(3, 4)
-    }
-}
-
-/// "p > 5q or q > 5p": equal with 780 and 156 over 3,000, and with 180 over 2,000 and 600 over 3,000.
-fn equal_stiffnesses() -> Vec<Edge> {
-    let mut edges = Vec::new();
-    for (spans, widths) in [
-        ((3_000, 3_000), (780, 156)),
-        ((3_000, 3_000), (781, 156)),
-        ((3_000, 3_000), (780, 155)),
-        ((3_000, 2_000), (180, 600)),
-        ((3_000, 2_000), (180, 601)),
-        ((3_000, 2_000), (179, 600)),
-    ] {
-        let words = format!("bays {spans:?}, beams {widths:?} wide");
-        edges.push((words, even(spans, widths, 200)));
-    }
-    let mut floor = even((3_000, 3_000), (780, 156), 200);
-    floor.x_lines[2].0 = 781;
-    edges.push(("781 wide on one x line".to_string(), floor));
-    edges
-}
-
 /// The deepest beam on an x line that breaks nothing, then with it the widest, and one more.
 fn drawn_stiffnesses() -> Vec<Edge> {
     let mut draw = Draw::starting_at(3);
@@ -165,27 +127,6 @@ fn drawn_stiffnesses() -> Vec<Edge> {
             edges.push((format!("{words}, {} wide", width - 1), passes));
             edges.push((format!("{words}, {width} wide"), floor));
         }
-    }
-    edges
-}
-
-/// "S > 80000": 375 wide over 3,000 makes four α of 20,000, for which a slab of 100 is too thin, 376
-/// more. "8000 < S": 160 wide and half as deep again as the slab, over 5,400, makes four α of 2,000 for
-/// the inner panel, for which 4620/33 = 140 is asked, and 161 on one line more, for which 4620·1.1/36.
-fn alpha_sums() -> Vec<Edge> {
-    let mut edges = Vec::new();
-    for width in [375, 376] {
-        let floor = even((3_000, 3_000), (width, width), 100);
-        edges.push((format!("{width} wide under a slab of 100"), floor));
-    }
-    for width in [160, 161] {
-        let mut floor = Floor::clear(3, 3);
-        floor.t = 140;
-        (floor.cx, floor.cy) = (780, 780);
-        (floor.x_spans, floor.y_spans) = (vec![5_400; 3], vec![5_400; 3]);
-        floor.x_lines = vec![(300, 210), (160, 210), (width, 210), (300, 210)];
-        floor.y_lines = vec![(300, 210), (160, 210), (160, 210), (300, 210)];
-        edges.push((format!("{width} wide under a slab of 140"), floor));
     }
     edges
 }

@@ -17,7 +17,7 @@ use std::collections::BTreeSet;
 use std::sync::OnceLock;
 
 /// Drawn once for all tests.
-fn all_floors() -> &'static [Described] {
+pub fn all_floors() -> &'static [Described] {
     static FLOORS: OnceLock<Vec<Described>> = OnceLock::new();
     FLOORS.get_or_init(floors::all)
 }

@@ -1,5 +1,6 @@
 //! The inputs that are listed: that there are enough of every sort, and what each of them earns by 01.
 
+mod beams;
 mod change_refusals;
 mod command;
 mod draw;

@@ -76,13 +76,14 @@ fn the_paper_has_what_is_printed() {
     assert_eq!(rows.len(), lines.len());
 }
 
-/// The figures that the sources got wrong. Any other beyond one percent would be ours.
+/// By the factors of document 000 where request Two has the section with its flange: 105, 107, 109, 110,
+/// 155. By slips of the sources: 108, 110, 413. Any other beyond one percent would be ours.
 #[test]
-fn every_figure_is_within_one_percent_but_two() {
+fn no_other_figure_is_beyond_one_percent() {
     let lines = lines(&printed("figures", &stdin()));
     let beyond = lines.iter().filter(|(_, (_, beyond))| *beyond);
     let beyond: Vec<u64> = beyond.map(|(&figure, _)| figure).collect();
-    assert_eq!(beyond, [110, 413]);
+    assert_eq!(beyond, [105, 107, 108, 109, 110, 155, 413]);
 }
 
 #[test]

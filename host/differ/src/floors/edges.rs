@@ -1,19 +1,19 @@
 //! A drawn floor at the edge of one limit of the method, and just past it: "equality always passes".
 
+use super::beams;
 use cases::draw::Draw;
 use cases::floors::drawn::no_thicker_than_asked;
-use floor::{Floor, NO_BEAM};
-use reference::verdict::directions_are_too_unlike;
+use floor::Floor;
 
 /// The floor at the edge and past it, `None` where the floor cannot be brought there.
-type Way = fn(&mut Draw, &Floor) -> Option<(Floor, Floor)>;
+pub type Way = fn(&mut Draw, &Floor) -> Option<(Floor, Floor)>;
 
 const WAYS: [(&str, Way); 6] = [
     ("panel length", panel_length),
     ("neighbours", neighbours),
     ("offset", offset),
     ("live load", live_load),
-    ("stiffness", stiffness),
+    ("stiffness", beams::stiffness),
     ("thickness", thickness),
 ];
 
@@ -34,7 +34,7 @@ pub fn edge(draw: &mut Draw, floor: &Floor) -> (&'static str, Floor, Floor) {
 }
 
 /// The floor and another one that `alter` makes of it.
-fn both(at: Floor, alter: impl Fn(&mut Floor)) -> Option<(Floor, Floor)> {
+pub fn both(at: Floor, alter: impl Fn(&mut Floor)) -> Option<(Floor, Floor)> {
     let mut past = at.clone();
     alter(&mut past);
     Some((at, past))
@@ -103,29 +103,6 @@ fn live_load(draw: &mut Draw, floor: &Floor) -> Option<(Floor, Floor)> {
         ..floor.clone()
     };
     both(at, |past| past.live += 1)
-}
-
-/// 32: the deepest beam on an x line that breaks nothing, by halving: the deeper it is, the stiffer.
-fn stiffness(draw: &mut Draw, floor: &Floor) -> Option<(Floor, Floor)> {
-    let line = draw.between(0, floor.x_lines.len() - 1);
-    let with_depth = |depth| {
-        let mut floor = floor.clone();
-        floor.x_lines[line].1 = depth;
-        floor
-    };
-    let breaks = |depth| directions_are_too_unlike(&with_depth(depth).bytes());
-    let (mut passing, mut breaking) = (floor.x_lines[line].1, 1_500);
-    if floor.x_lines[line] == NO_BEAM || breaks(passing) || !breaks(breaking) {
-        return None;
-    }
-    while breaking - passing > 1 {
-        let middle = (passing + breaking) / 2;
-        match breaks(middle) {
-            true => breaking = middle,
-            false => passing = middle,
-        }
-    }
-    Some((with_depth(passing), with_depth(breaking)))
 }
 
 /// 64: "t below some panel's least thickness"

@@ -59,6 +59,20 @@ fn wrong_numbers() -> Batch {
     batch
 }
 
+/// Beams everywhere with A below 10000, and α such that the rounding of the inertia's last term counts.
+fn beams() -> Batch {
+    let floor = Floor {
+        t: 216,
+        x_lines: vec![(351, 288), (336, 324), (576, 324), (528, 324)],
+        y_lines: vec![(528, 324), (576, 324), (336, 324), (756, 288)],
+        ..Floor::clear(3, 3)
+    };
+    let deeper = Call::Change(record(7, 2, [576, 350, 0]));
+    let mut batch = batch(lent(&floor), &[Call::Open, deeper, Call::Panel(1, 1)]);
+    batch.show();
+    batch
+}
+
 /// Refused 1; 8 and 13 for a table and a slice that are a number short. None of them writes.
 fn refused_floors() -> [Batch; 3] {
     let no_floor = Lent::of(&Floor::clear(3, 3).bytes()[..40], &[7, 8], &[9]);
@@ -79,7 +93,7 @@ fn refused_floors() -> [Batch; 3] {
 
 pub fn batches() -> Vec<Batch> {
     let queries = [2_195_000, 0, 20_000_000, 2_000_000_001].map(query);
-    let mut batches = vec![clear_floor(), wrong_numbers()];
+    let mut batches = vec![clear_floor(), wrong_numbers(), beams()];
     batches.extend(refused_floors());
     batches.push(batch(Lent::default(), &queries));
     batches

@@ -3,6 +3,7 @@
 mod changes;
 mod openings;
 mod order;
+mod stiffness;
 mod supports;
 
 use cases::draw::Draw;
@@ -10,7 +11,7 @@ use differ::case::Case;
 use differ::job::{Calls, Change, Job, LIBRARY};
 use differ::tally::Tally;
 use differ::work::{parts, Amount};
-use differ::{runs, variety};
+use differ::{floors, runs, variety};
 use gandhrumil::{Answer, Query};
 
 const FEW: Amount = Amount {
@@ -38,10 +39,14 @@ fn assert_noticed(part: &str, calls: Calls, words: &str) {
     assert!(noticed.contains(words), "{noticed}");
 }
 
-/// What is said of the first difference in the runs that are described.
-fn noticed_in_runs(change: Change) -> String {
+/// What is said of the first difference in what is described.
+fn noticed_in<T>(
+    described: &[T],
+    calls: Calls,
+    compare: impl Fn(&mut Case, &T) -> Result<(), String>,
+) -> String {
     let job = Job {
-        calls: Calls { change, ..LIBRARY },
+        calls,
         ..Job::of_the_library(1)
     };
     let mut tally = Tally::default();
@@ -50,9 +55,19 @@ fn noticed_in_runs(change: Change) -> String {
         draw: Draw::starting_at(job.seed),
         tally: &mut tally,
     };
-    let runs = cases::runs::all();
-    let mut compared = runs.iter().map(|run| runs::replay(&mut case, run));
+    let mut compared = described.iter().map(|one| compare(&mut case, one));
     compared.find_map(Result::err).expect("a difference")
+}
+
+fn noticed_in_runs(change: Change) -> String {
+    let calls = Calls { change, ..LIBRARY };
+    noticed_in(&cases::runs::all(), calls, runs::replay)
+}
+
+fn noticed_in_floors(calls: Calls) -> String {
+    noticed_in(&cases::floors::all(), calls, |case, floor| {
+        floors::undamaged(case, "described", &floor.bytes)
+    })
 }
 
 #[track_caller]
@@ -149,6 +164,8 @@ fn what_never_came_up() {
         "a panel query: refusal 10",
         "12 bays each way",
         "some choice of sides",
+        "one floor of a hundred: h − t = 4t",
+        "one floor of a hundred: S past 80000",
         "a change: Mended",
         "a change: Refused(9)",
         "a change: Refused(13)",

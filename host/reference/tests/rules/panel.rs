@@ -23,22 +23,23 @@ fn what_adjoins_first_inner_and_last_lines() {
     assert_eq!(adjoining(1, &[4_000], 300), outer(4_000));
 }
 
-/// Beams of twice the slab's depth: α is 40000·8·b/(2W) = 160000·b/W inside, 120000·b/W outside. Of
-/// the x lines W is (4000 + 800)/2 = 2400, (4000 + 5000)/2 = 4500, (5000 + 800)/2 = 2900; of the
-/// y lines (6000 + 400)/2 = 3200 twice.
+/// Beams of twice the slab's depth, so that f is t: over t³ twelve times the inertia is 8b + 200 +
+/// 600b/(b + 100) outside and 8b + 400 + 1200b/(b + 200) inside. Of the x lines that is 2,200, 4,400 and
+/// 3,050, of the y lines 4,700 and 1,760. Of the x lines W is (4000 + 800)/2 = 2400, (4000 + 5000)/2 =
+/// 4500, (5000 + 800)/2 = 2900; of the y lines (6000 + 400)/2 = 3200 twice.
 #[test]
 fn alphas_by_direction() {
     let mut floor = Floor::clear(1, 2);
     (floor.cx, floor.cy) = (400, 800);
     floor.y_spans = vec![4_000, 5_000];
-    floor.x_lines = vec![(200, 400), (450, 400), (290, 400)];
-    floor.y_lines = vec![(320, 400), (161, 400)];
+    floor.x_lines = vec![(200, 400), (400, 400), (300, 400)];
+    floor.y_lines = vec![(500, 400), (150, 400)];
     let bytes = floor.bytes();
-    assert_eq!(x_line_alphas(&bytes), [10_000, 16_000, 12_000]);
-    assert_eq!(y_line_alphas(&bytes), [12_000, 6_037]);
+    assert_eq!(x_line_alphas(&bytes), [9_166, 9_777, 10_517]);
+    assert_eq!(y_line_alphas(&bytes), [14_687, 5_500]);
     let bytes = floor.transposed().bytes();
-    assert_eq!(x_line_alphas(&bytes), [12_000, 6_037]);
-    assert_eq!(y_line_alphas(&bytes), [10_000, 16_000, 12_000]);
+    assert_eq!(x_line_alphas(&bytes), [14_687, 5_500]);
+    assert_eq!(y_line_alphas(&bytes), [9_166, 9_777, 10_517]);
 }
 
 /// Clear spans are 5600, 4600, 3600 along x and 3700, 4700, 5200, 4700 along y. The longer one is
@@ -66,10 +67,11 @@ const WITHOUT_BEAMS_TRANSPOSED: &str = "0 0
 125 157 174 157
 ";
 
-/// Beams of twice the slab's depth, clear spans of 5600. α is 80·b/3 inside and 37.5·b outside: 6000,
-/// 4000, 12000 on x lines and 18000, 16000, 30000 on y lines. Against p the q of a panel is at most
-/// 46000 to 10000. S is 44000 and 56000 south, 50000 and 62000 north, and 40000·5600·1.1 is
-/// 152.1 and 146.7, 149.3 and 144.1 times 1440000 + 5(S − 8000).
+/// Beams of twice the slab's depth, clear spans of 5600. Over t³ twelve times the inertia is 8b + 125 +
+/// 750b/(2b + 125) outside, over 3,200, and 8b + 250 + 750b/(b + 125) inside, over 6,000: α is 5,233,
+/// 3,098, 9,371 on x lines and 13,427, 9,451, 21,477 on y lines. Against p the q of a panel is at most
+/// 30,928 to 8,331. S is 31,209 and 39,259 south, 35,347 and 43,397 north, and 40000·5600·1.1 is
+/// 158.3 and 154.4, 156.3 and 152.4 times 1440000 + 5(S − 8000).
 fn with_beams() -> Floor {
     Floor {
         t: 125,
@@ -80,13 +82,13 @@ fn with_beams() -> Floor {
 }
 
 const WITH_BEAMS: &str = "0 65
-153 147
-150 145
+159 155
+157 153
 ";
 
 const WITH_BEAMS_TRANSPOSED: &str = "0 65
-153 150
-147 145
+159 157
+155 153
 ";
 
 #[test]

@@ -1,7 +1,10 @@
-//! "Line stiffness"
+//! "Line stiffness", with "Real beam sections" (02, Two).
 
 use reference::layout::Line;
-use reference::stiffness::{alpha, flange, frame_width, rectangle_torsion, torsion, Adjoining};
+use reference::stiffness::{
+    alpha, flange, frame_width, rectangle_torsion, torsion, twelve_inertias, Adjoining,
+};
+use std::collections::BTreeSet;
 
 pub fn line(outer: bool, width: u128, depth: u128) -> Line {
     Line {
@@ -30,18 +33,90 @@ fn frame_widths() {
     assert_eq!(frame_width(outer(1_020, 210)), 615);
 }
 
-/// "*Inside beam 350×700, W 6,000, t 165: α 89,081."
-#[test]
-fn alpha_inside() {
-    assert_eq!(alpha(line(false, 350, 700), 6_000, 165), 89_081);
+/// Twelve times I_b of document 001, rounded down: with ȳ = N/D, where N = b·H² + b1·hf² and D is twice
+/// the area, it is 4·((b + b1)·N³ + b·(D·H − N)³ − b1·(N − D·hf)³)/D³. b1 is for both flanges inside.
+pub fn twelve_inertias_by_001(line: Line, t: u128) -> u128 {
+    let [b, h, t] = [line.width, line.depth, t].map(|length| length as i128);
+    let b1 = (h - t).min(4 * t) * if line.outer { 1 } else { 2 };
+    let n = b * h.pow(2) + b1 * t.pow(2);
+    let d = 2 * (b * h + b1 * t);
+    let thirds = (b + b1) * n.pow(3) + b * (d * h - n).pow(3) - b1 * (n - d * t).pow(3);
+    (4 * thirds).div_euclid(d.pow(3)) as u128
 }
 
-/// The beam's part is 10000·300·600³ = 648·10¹² and the slab's 2·3200·180³ = 37,324,800,000, so that
-/// one over the other is 17,361 1/9: three times it is 52,083 1/3, four times it 69,444 4/9.
+/// Document 001's E·I_b over E·I_s, I_s = l2·h³/12 with 01's W for l2, in ten-thousandths.
+pub fn alpha_by_001(line: Line, frame_width: u128, t: u128) -> u128 {
+    10_000 * twelve_inertias_by_001(line, t) / (frame_width * t.pow(3))
+}
+
+/// "Inside 350×700, W 6,000, t 165", which had 89,081 by the factor 2. f is 535 and p 1,070:
+/// 120,050,000,000 + 4,806,573,750 + ⌊3·245000·176550·535²/421550⌋, where the last is 88,107,632,442, are
+/// 212,964,206,192, and W·t³ is 26,952,750,000.
 #[test]
-fn alpha_outside_has_three_quarters_of_the_factor() {
-    assert_eq!(alpha(line(true, 300, 600), 3_200, 180), 52_083);
-    assert_eq!(alpha(line(false, 300, 600), 3_200, 180), 69_444);
+fn alpha_inside() {
+    let beam = line(false, 350, 700);
+    assert_eq!(twelve_inertias(beam, 165), 212_964_206_192);
+    assert_eq!(alpha(beam, 6_000, 165), 79_013);
+}
+
+/// f and p are 420: 64,800,000,000 + 2,449,440,000 + ⌊3·180000·75600·420²/255600⌋, where the last is
+/// 28,174,309,859, are 95,423,749,859, and W·t³ is 18,662,400,000: 51,131.6.
+#[test]
+fn alpha_outside() {
+    let beam = line(true, 300, 600);
+    assert_eq!(twelve_inertias(beam, 180), 95_423_749_859);
+    assert_eq!(alpha(beam, 3_200, 180), 51_131);
+}
+
+/// "the last term rounded down": it is 3·(150·91)·90/(150·91 + 90) = 268 and 3,180/13,740 outside.
+#[test]
+fn the_shallowest_and_narrowest_beam() {
+    let (web, flange) = (150 * 91 * 91 * 91, 90 * 90 * 90);
+    assert_eq!(twelve_inertias(line(true, 150, 91), 90), web + flange + 268);
+    // Inside 2·f = 2: 3·13650·180/13830 = 532 and 13,440/13,830.
+    assert_eq!(
+        twelve_inertias(line(false, 150, 91), 90),
+        web + 2 * flange + 532
+    );
+}
+
+/// Above h = 5t the flange is 4t whatever h is: outside 300 by 1,001 under 200 has f = 800.
+/// 300·1001³ + 800·200³ + ⌊3·300300·160000·801²/460300⌋, where the last is 200,918,823,688.
+#[test]
+fn a_flange_of_4t() {
+    let expected = 300 * 1_003_003_001 + 800 * 8_000_000 + 200_918_823_688;
+    assert_eq!(twelve_inertias(line(true, 300, 1_001), 200), expected);
+}
+
+/// Lines with h − t well below, one below, at, one above and well above 4t, as far as 01 allows such depths.
+#[test]
+fn sections_of_document_001() {
+    let mut seen = BTreeSet::new();
+    for t in [90, 91, 125, 200, 299, 300, 301, 375, 500] {
+        for h in [
+            t + 1,
+            t + 2,
+            2 * t,
+            5 * t - 1,
+            5 * t,
+            5 * t + 1,
+            1_499,
+            1_500,
+        ] {
+            if h > 1_500 {
+                continue;
+            }
+            seen.insert((h - t).cmp(&(4 * t)));
+            for b in [150, 151, 287, 600, 999, 1_000] {
+                for beam in [line(true, b, h), line(false, b, h)] {
+                    let expected = twelve_inertias_by_001(beam, t);
+                    assert_eq!(twelve_inertias(beam, t), expected, "{beam:?} {t}");
+                    assert_eq!(alpha(beam, 3_210, t), alpha_by_001(beam, 3_210, t));
+                }
+            }
+        }
+    }
+    assert_eq!(seen.len(), 3);
 }
 
 #[test]

@@ -23,7 +23,7 @@ fn ratio_a() {
     assert_eq!(beam_ratio(9_999, 6_000, 6_000), 9_999);
     assert_eq!(beam_ratio(10_000, 6_000, 6_000), 10_000);
     assert_eq!(beam_ratio(20_001, 3_000, 6_000), 10_000);
-    assert_eq!(beam_ratio(89_081, 6_000, 7_600), 10_000);
+    assert_eq!(beam_ratio(79_013, 6_000, 7_600), 10_000);
 }
 
 /// 6000/7600 = 0.78947, and the ends of what limit 2 allows.

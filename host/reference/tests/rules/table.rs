@@ -70,14 +70,14 @@ fn second_static_moment_of_01() {
     assert_eq!(x_numbers(&floor, 2, 2)[..], last);
 }
 
-/// "*Inside beam 350×700, W 6,000, t 165: α 89,081." "*A 10000, R 7894: 8131 between and inner."
+/// Inside beam 350×700, W 6,000, t 165: by 02, Two, α 79,013. "*A 10000, R 7894: 8131 between and inner."
 /// "*Total 38,290,000, part 8131, A 10000: 31,133,599; 7,156,401; 26,463,559; 4,670,040."
 /// The loads and columns are such that Mo is 547,000, 70 percent of which are that total.
 #[test]
 fn section_of_01() {
     let floor = bays(7_600, 6_000, 930, (6_000, 5_746));
     let floor = with_beams(floor, 165, (350, 700));
-    assert_eq!(x_line_alphas(&floor.bytes())[1..4], [89_081; 3]);
+    assert_eq!(x_line_alphas(&floor.bytes())[1..4], [79_013; 3]);
     let found = x_numbers(&floor, 1, 0);
     assert_eq!(found[0], 547_000);
     assert_eq!(

@@ -1,6 +1,7 @@
 //! "The verdict": each limit alone broken and, "equality always passes", just not.
 
 use crate::hand_made::{self, ONE_BAY, THIN, TWO_BY_ONE};
+use crate::stiffness::{alpha_by_001, line};
 use floor::{Floor, NO_BEAM};
 use reference::refusals::refusal;
 use reference::verdict::{judge, too_unlike};
@@ -155,85 +156,120 @@ fn five_times_as_stiff_passes() {
     }
 }
 
-/// Beams of depth 400 under a slab of 200, so that h³/t³ = 8, and columns of half a span, so that
-/// k/W is as large outside, 3/(3/4 of the span), as inside: α is 160000·b over the span across.
-fn even(nx: usize, ny: usize, spans: (u32, u32), widths: (u32, u32)) -> Floor {
+/// Width and depth of the beams on outer lines, and on inner ones.
+type Beams = [(u32, u32); 2];
+
+/// Under a slab of 200, over spans of 3,000 and between columns of 1,500 all α are 6,650.
+const WEAK: Beams = [(350, 310), (645, 280)];
+/// There all α are 33,250, five times as much.
+const STIFF: Beams = [(505, 460), (890, 420)];
+
+/// With W 2,250 outside and 3,000 inside; 17 or 9 and 56 or 32 for each mm of width.
+#[test]
+fn the_weak_and_the_stiff() {
+    for ([outer, inner], expected) in [(WEAK, 6_650), (STIFF, 33_250)] {
+        for (is_outer, (width, depth), frame_width) in [(true, outer, 2_250), (false, inner, 3_000)]
+        {
+            let alpha = |width: u32| {
+                let line = line(is_outer, width.into(), depth.into());
+                alpha_by_001(line, frame_width, 200)
+            };
+            assert_eq!(alpha(width), expected);
+            assert!(alpha(width - 1) < expected && expected < alpha(width + 1));
+        }
+    }
+}
+
+fn lines(count: usize, [outer, inner]: Beams) -> Vec<(u32, u32)> {
+    let mut lines = vec![inner; count];
+    lines[0] = outer;
+    lines[count - 1] = outer;
+    lines
+}
+
+/// Columns of half a span.
+fn even(nx: usize, ny: usize, spans: (u32, u32), beams: (Beams, Beams)) -> Floor {
     let (x_span, y_span) = spans;
-    let (on_x_lines, on_y_lines) = widths;
+    let (on_x_lines, on_y_lines) = beams;
     Floor {
         cx: x_span / 2,
         cy: y_span / 2,
         x_spans: vec![x_span; nx],
         y_spans: vec![y_span; ny],
-        x_lines: vec![(on_x_lines, 400); ny + 1],
-        y_lines: vec![(on_y_lines, 400); nx + 1],
+        x_lines: lines(ny + 1, on_x_lines),
+        y_lines: lines(nx + 1, on_y_lines),
         ..Floor::good(nx, ny)
     }
 }
 
-/// "p > 5q or q > 5p". Over 3,000 α is 160/3 of the width: 41,600 of 780 and 8,320 of 156, so that
-/// p = 5q in every panel, but 41,653 of 781 and 8,266 of 155.
+/// "p > 5q or q > 5p": p = 5q in every panel, until a line has a beam that is wider or narrower.
 #[test]
 fn limit_32() {
-    let floor = even(3, 4, (3_000, 3_000), (780, 156));
+    let floor = even(3, 4, (3_000, 3_000), (STIFF, WEAK));
     assert_verdict(&floor, 0);
     for x_line in 0..5 {
-        for (width, expected) in [(779, 0), (781, 32)] {
-            let mut floor = floor.clone();
-            floor.x_lines[x_line].0 = width;
-            assert_verdict(&floor, expected);
-        }
+        let mut floor = floor.clone();
+        floor.x_lines[x_line].0 += 1;
+        assert_verdict(&floor, 32);
+        floor.x_lines[x_line].0 -= 2;
+        assert_verdict(&floor, 0);
     }
     for y_line in 0..4 {
-        for (width, expected) in [(157, 0), (155, 32)] {
-            let mut floor = floor.clone();
-            floor.y_lines[y_line].0 = width;
-            assert_verdict(&floor, expected);
-        }
+        let mut floor = floor.clone();
+        floor.y_lines[y_line].0 -= 1;
+        assert_verdict(&floor, 32);
+        floor.y_lines[y_line].0 += 2;
+        assert_verdict(&floor, 0);
     }
 }
 
-/// Each panel in turn is the only one with its α of 8,320 on both y lines and 41,600 or 41,653 on both
-/// x lines. With 1,000 wide the y lines have 53,333, with 400 wide the x lines 21,333; no other panel
-/// has more than 41,653 + 21,333 against 8,320 + 8,320, or 53,333 + 53,333 against 21,333 + 21,333.
+/// Each panel in turn is the only one with its α of 6,650 on both y lines and 33,250 or a little more on
+/// both x lines. All other lines have beams of 400 by 400, α 10000·3880/2250 = 17,244 outside and
+/// 10000·4400/3000 = 14,666 inside, between the two.
 #[test]
 fn limit_32_in_a_single_panel() {
     for i in 0..4 {
         for j in 0..4 {
-            for (width, expected) in [(780, 0), (781, 32)] {
-                let mut floor = even(4, 4, (3_000, 3_000), (400, 1_000));
-                for line in [0, 1] {
-                    floor.x_lines[j + line].0 = width;
-                    floor.y_lines[i + line].0 = 156;
-                }
-                assert_verdict(&floor, expected);
+            let mut floor = even(4, 4, (3_000, 3_000), ([(400, 400); 2], [(400, 400); 2]));
+            for line in [0, 1] {
+                floor.x_lines[j + line] = lines(5, STIFF)[j + line];
+                floor.y_lines[i + line] = lines(5, WEAK)[i + line];
             }
+            assert_verdict(&floor, 0);
+            floor.x_lines[j].0 += 1;
+            assert_verdict(&floor, 32);
         }
     }
 }
 
-/// "p = (sum of α of its two x lines)·Y², q = (sum of α of its two y lines)·X²". The x lines have
-/// 80·180 = 14,400, the y lines 160·600/3 = 32,000: 2·14400·2000² = 115.2·10⁹ is a fifth of
-/// 2·32000·3000² = 576·10⁹.
+/// "p = (sum of α of its two x lines)·Y², q = (sum of α of its two y lines)·X²". The x lines have 6,093 =
+/// 9·677, W being 1,500 and 2,000, the y lines 13,540 = 20·677: 6093·2000² = 24.372·10⁹ is a fifth of
+/// 13540·3000² = 121.86·10⁹.
 #[test]
 fn limit_32_takes_the_spans_across() {
-    for (on_x_lines, on_y_lines, expected) in
-        [(180, 600, 0), (180, 601, 32), (179, 600, 32), (181, 601, 0)]
-    {
-        let floor = even(3, 3, (3_000, 2_000), (on_x_lines, on_y_lines));
+    let beams = ([(580, 230), (315, 290)], [(686, 320), (450, 380)]);
+    let floor = even(3, 3, (3_000, 2_000), beams);
+    assert_verdict(&floor, 0);
+    for (on_x_lines, on_y_lines, expected) in [(0, 1, 32), (-1, 0, 32), (1, 0, 0), (0, -1, 0)] {
+        let mut floor = floor.clone();
+        for line in 0..4 {
+            let (x, y) = (&mut floor.x_lines[line].0, &mut floor.y_lines[line].0);
+            *x = x.strict_add_signed(on_x_lines);
+            *y = y.strict_add_signed(on_y_lines);
+        }
         assert_verdict(&floor, expected);
     }
 }
 
-/// With cy 300 W of an outer x line is 1,650 and α 240000·572/3300 = 41,600 as inside. Clear spans of
+/// With cy 300 W of an outer x line is 1,650, and α of 467 by 427 there 33,250 as inside. Clear spans of
 /// 1,500 and 2,700 in place of the spans would make p more than three times as large.
 #[test]
 fn limit_32_takes_whole_spans() {
-    for (width, expected) in [(572, 0), (573, 32)] {
-        let mut floor = even(3, 3, (3_000, 3_000), (780, 156));
+    for (width, expected) in [(467, 0), (468, 32)] {
+        let mut floor = even(3, 3, (3_000, 3_000), (STIFF, WEAK));
         floor.cy = 300;
-        floor.x_lines[0].0 = width;
-        floor.x_lines[3].0 = width;
+        floor.x_lines[0] = (width, 427);
+        floor.x_lines[3] = (width, 427);
         assert_verdict(&floor, expected);
     }
 }
@@ -248,14 +284,13 @@ fn limit_32_is_for_beams_everywhere() {
     assert_verdict(&floor, 0);
 }
 
-/// "Where the first two coincide the floor counts as beams everywhere." One bay with four beams of
-/// α 160/3 of the width.
+/// "Where the first two coincide the floor counts as beams everywhere." One bay with four outer beams.
 #[test]
 fn limit_32_where_every_line_is_outer() {
-    for (on_x_lines, expected) in [(780, 1), (781, 1 + 32)] {
-        let floor = even(1, 1, (3_000, 3_000), (on_x_lines, 156));
-        assert_verdict(&floor, expected);
-    }
+    let mut floor = even(1, 1, (3_000, 3_000), (STIFF, WEAK));
+    assert_verdict(&floor, 1);
+    floor.x_lines[0].0 += 1;
+    assert_verdict(&floor, 1 + 32);
 }
 
 /// "t below some panel's least thickness." 5600/30 = 186.7 without beams, 5600/33 = 169.7 with edge
@@ -287,7 +322,7 @@ fn limit_64_in_every_bay() {
     }
 }
 
-/// Inner beams so weak that the one inner panel has S ≤ 8000, about 4·500, and asks for 5600/33 =
+/// Inner beams so weak that the one inner panel has S ≤ 8000, about 4·260, and asks for 5600/33 =
 /// 169.7; outer beams so stiff that all others have S > 80000 and ask for 5600·1.1/45 = 136.9. These
 /// break 32.
 #[test]
