@@ -1,4 +1,5 @@
--- "Figures to hold it against": those marked *, of every layer, as one table. proofs/FiguresHold computes them under one claim.
+-- "Figures to hold it against": those marked *, of every layer, as one table. α is 01's worked again as 02, Two, asks, with two more of it: docs/FIGURES.md
+-- has each by hand. proofs/FiguresHold computes them under one claim.
 -- Assumes nothing.
 use mathlib.Core.Bool.{true, false}
 use mathlib.Core.List.{List, [], _∷_}
@@ -33,6 +34,8 @@ figures =
     figure "Mo of D 7,000, L 2,500, W 3,800, ln 4,700" (staticMoment 7000 2500 3800 4700) 130111
     ∷ figure "Mo of D 2,500, L 3,000, W 5,000, ln 5,600" (staticMoment 2500 3000 5000 5600) 152880
     ∷ figure "α, inside beam 350×700, W 6,000, t 165" (alpha false 350 700 6000 165) 79013
+    ∷ figure "α, outer beam 300×600, W 3,200, t 180" (alpha true 300 600 3200 180) 51131
+    ∷ figure "α, inside beam 300×1,000, W 6,000, t 150, f = 4t" (alpha false 300 1000 6000 150) 270564
     ∷ figure "T, outer 300×600, t 180" (edgeTorsion 300 600 180) 1288509120000
     ∷ figure "B of that T, l2 6,000, t 180" (torsionRatio (edgeTorsion 300 600 180) 6000 180) 7364
     ∷ figure "between at A 10000, R 7894" (between 10000 7894) 8131

@@ -6,7 +6,7 @@ use Prim.Native.Nat.{ℕ}
 use Prim.Native.String.{String}
 use lib.Dec.{eqb}
 
--- what it is a figure of, what the definitions make it, what 01 prints
+-- what it is a figure of, what the definitions make it, and what it is on paper: as 01 prints it, or worked out by hand
 pub record Figure : Type 0 where
   pub name : String
   pub ours : ℕ

@@ -1,3 +1,3 @@
 pub mod Widths
 pub mod Stiffness
-pub mod Flanged
+pub mod ParallelAxis

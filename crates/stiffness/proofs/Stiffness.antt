@@ -1,4 +1,4 @@
--- The inertia of a beam with its flange is bounded by the slab's own, and so is α: all that a user of α may know of it, besides its name.
+-- The inertia of a beam with its flange is bounded by a multiple of t³, and so α is bounded: all that a user of α may know of it, besides its name.
 --     apart-most      the largest number on the way, reached at b 1000, h 1500, t 375, inside: it fits 64 bits
 --     flanged-most    the flange adds no more than 8t, so that its share grows with t² and not with t³
 -- Assumes nothing.
@@ -17,7 +17,7 @@ use Rattle.stiffness.specs.Lines.{alpha}
 
 -- ---- the largest number on the way
 
--- two numbers multiply to no more than the square of their mean
+-- the product of two numbers is at most the square of their mean
 mean : (x y : ℕ) → 4 * (x * y) ≤ (x + y) * (x + y)
 mean x y = go (decLt x y)
   where
@@ -41,7 +41,7 @@ cubed-most t u h = omega (arith, turned (3 * t + u), mul-le-mul-left (u * u) (me
     turned : (m : ℕ) → u * u * (m * m) ≡ m * u * (m * u)
     turned m = omega arith
 
--- and so does what is left of it
+-- and its quotient is no larger
 pub term-most : {n d r : ℕ} → n ≤ 4805419921875000000 → 0 < d → r ≡ n / d → r ≤ 4805419921875000000
 term-most most there e = rw e (over most there tt)
 

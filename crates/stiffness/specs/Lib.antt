@@ -1,4 +1,4 @@
 pub mod Asked
 pub mod Sections
-pub mod Flanged
+pub mod ParallelAxis
 pub mod Lines

@@ -30,7 +30,7 @@ flange h t = min (h - t) (4 * t)
 abbrev pub overhang : Bool → ℕ → ℕ → ℕ
 overhang outer h t = cond outer (flange h t) (2 * flange h t)
 
--- "3·(b·h)·(p·t)·(h − t)²": what b by h and p by t, on one upper edge, have together beyond each by itself, before it is divided by their areas
+-- "3·(b·h)·(p·t)·(h − t)²": what the distance between the centroids of b by h and p by t adds, times the whole area
 abbrev pub apart : ℕ → ℕ → ℕ → ℕ → ℕ
 apart b h p t = 3 * area b h * area p t * ((h - t) * (h - t))
 

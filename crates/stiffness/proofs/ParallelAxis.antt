@@ -12,7 +12,7 @@ use Rattle.numbers.specs.Rounding.{floorOf}
 use Rattle.numbers.proofs.Integers.{diff}
 use Rattle.stiffness.specs.Asked.{Flanged}
 use Rattle.stiffness.specs.Sections.{cube, area, inertia, apart, flangedInertia}
-use Rattle.stiffness.specs.Flanged.{areas, fine, centroid, cubeℤ, thrice, Exact, IsInertia}
+use Rattle.stiffness.specs.ParallelAxis.{wholeArea, inUnits, centroid, cubeℤ, thrice, Exact, IsInertia}
 
 ruleset ring = (mul-add, add-mul, mul-assoc, mul-comm, mul-left-comm)
 
@@ -72,7 +72,7 @@ times-less p (suc c) = refl
 
 module _ (b h p t : ℕ) (t≤h : t ≤ h) where
   abbrev A : ℕ
-  A = areas b h p t
+  A = wholeArea b h p t
 
   abbrev J : ℕ
   J = b * cube h + p * cube t
@@ -81,10 +81,10 @@ module _ (b h p t : ℕ) (t≤h : t ≤ h) where
   y = centroid b h p t
 
   abbrev H : ℕ
-  H = fine b h p t h
+  H = inUnits b h p t h
 
   abbrev F : ℕ
-  F = fine b h p t t
+  F = inUnits b h p t t
 
   abbrev s : ℕ
   s = H - y
