@@ -27,7 +27,7 @@ area M = steelOf (queryOf M 1000 150 124 30 420) .value
 
 -- "fy 420", beams everywhere
 abbrev panel : ℕ → ℕ → ℕ → Panel
-panel sn ln S = record { everywhere = true; place = Inner; fy = 420; sn = sn; ln = ln; s = S }
+panel sn ln S = record { everywhere = true; place = Inner; fy = 420; sn = sn; ln = ln; s = S; weak = false }
 
 unfoldable pub figures : List Figure
 figures =

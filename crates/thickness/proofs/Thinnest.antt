@@ -1,8 +1,9 @@
--- The thickness of specs/ is the least that 01 asks, between 90 and 422, and no other number is it.
--- Each of the three rules asks n ≤ t·d and t ≥ m, so its least t is n/d rounded up; 422 meets each, so none is above it.
+-- The thickness of specs/ is the least that 01 and 02, Three, ask, between 90 and 465, and no other number is it.
+-- Each of the three rules of 01 asks n ≤ t·d and t ≥ m, so its least t is n/d rounded up; 422 meets each, so none is above it.
+-- Ten percent more of the least of anything is the least with ten percent more (`least-raised`), so that the three rules are not looked at again.
 -- And what is enough is enough for every t above it (`enough-on`), so that t is below the least exactly where it is not enough.
 -- Assumes nothing.
-use Prim.Native.Nat.{ℕ, _+_, _*_, _-_, _≤_, _<_, min, max}
+use Prim.Native.Nat.{ℕ, _+_, _*_, _-_, _/_, _≤_, _<_, min, max}
 use mathlib.Core.Bool.{Bool, true, false, cond, _&&_}
 use mathlib.Core.List.{[]}
 use mathlib.Core.Path.{_≡_, refl}
@@ -13,12 +14,12 @@ use Rattle.numbers.specs.Least.{Least, least-one}
 use Rattle.numbers.specs.Tests.{until, all}
 use Rattle.numbers.proofs.Bounded.{_⊕_, _⊗_, #}
 use Rattle.numbers.proofs.Rounded.{least-up, least-up-scaled}
-use Rattle.numbers.proofs.Tests.{says-and, says-le, at}
+use Rattle.numbers.proofs.Tests.{says-and, says-as, says-le, says-one, at}
 use Rattle.thickness.specs.declared.Panel.{Panel}
 use Rattle.thickness.specs.declared.PanelPlace.{PanelPlace}
 use Rattle.thickness.specs.declared.PanelPlace.the-variants.{Bare, Edged, Inner}
-use Rattle.thickness.specs.Asked.{PanelSizes}
-use Rattle.thickness.specs.LeastThickness.{divisors, gradeRow, panelColumn, divisor, byStiffness, Stiff, Middling, Tabled, Enough, stiff, middling, tabled, leastThickness, Thinnest}
+use Rattle.thickness.specs.Asked.{Answered, PanelSizes}
+use Rattle.thickness.specs.LeastThickness.{divisors, gradeRow, panelColumn, divisor, byStiffness, Stiff, Middling, Tabled, EnoughBy01, raises, Raised, Enough, stiff, middling, tabled, answerOf01, raised, leastThickness, Thinnest}
 
 -- ---- the table
 
@@ -55,27 +56,27 @@ shorter-most p = omega arith
 
 -- ---- the three rules
 
--- p is the least number with P, and in the range of all thicknesses
-abbrev Found : (ℕ → Type 0) → ℕ → Type 0
-Found P p = Least P p × (90 ≤ p) × (p ≤ 422)
+-- p is the least number with P, and from 90 to `most`
+abbrev Found : ℕ → (ℕ → Type 0) → ℕ → Type 0
+Found most P p = Least P p × (90 ≤ p) × (p ≤ most)
 
-found : {P : ℕ → Type 0} {p : ℕ} → Least P p → 90 ≤ p → P 422 → Found P p
+found : {P : ℕ → Type 0} {p : ℕ} → Least P p → 90 ≤ p → P 422 → Found 422 P p
 found l from enough = (l, from, l .first 422 enough)
 
 module _ (fy sn ln S : ℕ) (p : PanelSizes fy sn ln) where
-  least-stiff : Found (Stiff fy sn ln) (stiff fy sn ln)
+  least-stiff : Found 422 (Stiff fy sn ln) (stiff fy sn ln)
   unfolding Stiff stiff
   least-stiff =
       let l = least-up-scaled 1400 (36 * sn + 9 * ln) (ln * sn * (1120 + fy)) 90 (omega arith) in
       found l (l .holds .1) (omega (arith, p .most ⊗ # sn ⊗ (# 1120 ⊕ p .grade)), lit≤ tt)
 
-  least-middling : Found (Middling fy sn ln S) (middling fy sn ln S)
+  least-middling : Found 422 (Middling fy sn ln S) (middling fy sn ln S)
   unfolding Middling middling
   least-middling =
       let l = least-up-scaled 1400 (1440000 * sn + 5 * ln * (S - 8000)) (40000 * ln * sn * (1120 + fy)) 125 (omega arith) in
       found l (omega (arith, l .holds .1)) (omega (arith, # 40000 ⊗ p .most ⊗ # sn ⊗ (# 1120 ⊕ p .grade)), lit≤ tt)
 
-  least-tabled : (n : ℕ) → 28 ≤ n → Found (Tabled n ln) (tabled n ln)
+  least-tabled : (n : ℕ) → 28 ≤ n → Found 422 (Tabled n ln) (tabled n ln)
   unfolding Tabled tabled
   least-tabled n h =
       let l = least-up ln 125 {d = n} (omega arith) in
@@ -92,11 +93,50 @@ by-case G everywhere S {P} {Q} {R} {p} {q} {r} x y z = told (everywhere && ltb 8
     told false true = y
     told false false = z
 
-pub least-thickness : (p : Panel) → PanelSizes (p .fy) (p .sn) (p .ln) → Found (Enough p) (leastThickness p)
-unfolding Enough leastThickness
-least-thickness p h =
-    by-case Found (p .everywhere) (p .s) (least-stiff (p .fy) (p .sn) (p .ln) (p .s) h) (least-middling (p .fy) (p .sn) (p .ln) (p .s) h)
+least-by-01 : (p : Panel) → PanelSizes (p .fy) (p .sn) (p .ln) → Found 422 (EnoughBy01 p) (answerOf01 p)
+unfolding EnoughBy01 answerOf01
+least-by-01 p h =
+    by-case (Found 422) (p .everywhere) (p .s) (least-stiff (p .fy) (p .sn) (p .ln) (p .s) h) (least-middling (p .fy) (p .sn) (p .ln) (p .s) h)
     (least-tabled (p .fy) (p .sn) (p .ln) (p .s) h (divisor (p .fy) (p .place)) (divisor-in (p .fy) (p .place) .0))
+
+-- an answer of 01 is one of which ten percent more can be worked out
+pub answered : (p : Panel) {r : ℕ} → PanelSizes (p .fy) (p .sn) (p .ln) → r ≡ answerOf01 p → Answered r
+answered p h e = record { most = rw e (least-by-01 p h .2) }
+
+-- ---- ten percent more, whatever it is of
+
+least-raised : {P : ℕ → Type 0} {a : ℕ} → Least P a → Least (Raised P) (raised a)
+unfolding raised
+least-raised {a = a} l =
+    record {
+      holds = record { answer = a; of01 = l; more = omega arith };
+      first = λ t r. omega (arith, least-one (r .of01) l, r .more);
+    }
+
+found-raised : (b : Bool) {P : ℕ → Type 0} {a : ℕ} → Found 422 P a → Found 465 (cond b (Raised P) P) (cond b (raised a) a)
+unfolding raised
+found-raised true l = (least-raised (l .0), omega (arith, l .1), omega (arith, l .2))
+found-raised false l = (l .0, l .1, omega (arith, l .2))
+
+-- t is that much or more exactly where 10t/11, rounded down, is the answer of 01 or more: a test with no division by a variable
+pub allowed : (b : Bool) (a t : ℕ) → leb (cond b (raised a) a) t ≡ leb a (cond b (10 * t / 11) t)
+unfolding raised
+allowed true a t =
+    says-one (says-le (raised a) t) (says-as (λ h. omega (arith, h)) (λ h. omega (arith, h)) (says-le a (10 * t / 11)))
+allowed false a t = refl
+
+-- what is asked as 02 has it is the same of two statements that say the same
+pub raised-as : {P Q : ℕ → Type 0} {t : ℕ} → ((u : ℕ) → P u → Q u) → ((u : ℕ) → Q u → P u) → Raised P t → Raised Q t
+raised-as to from r =
+    record {
+      answer = r .answer;
+      of01 = record { holds = to _ (r .of01 .holds); first = λ u h. r .of01 .first u (from u h) };
+      more = r .more;
+    }
+
+pub least-thickness : (p : Panel) → PanelSizes (p .fy) (p .sn) (p .ln) → Found 465 (Enough p) (leastThickness p)
+unfolding Enough leastThickness
+least-thickness p h = found-raised (raises p) (least-by-01 p h)
 
 -- ---- a thicker slab is enough too
 
@@ -116,11 +156,19 @@ rising-tabled : (n ln : ℕ) → Rising (Tabled n ln)
 unfolding Tabled
 rising-tabled n ln t u h p = (omega (arith, p .0, h ⊗ # n), omega (arith, h, p .1))
 
-pub enough-on : (p : Panel) → Rising (Enough p)
-unfolding Enough
-enough-on p =
+rising-raised : (b : Bool) {P : ℕ → Type 0} → Rising P → Rising (cond b (Raised P) P)
+rising-raised true on t u h r = record { answer = r .answer; of01 = r .of01; more = omega (arith, h, r .more) }
+rising-raised false on t u h r = on t u h r
+
+rising-by-01 : (p : Panel) → Rising (EnoughBy01 p)
+unfolding EnoughBy01
+rising-by-01 p =
     by-case (λ P _. Rising P) (p .everywhere) (p .s) {p = 0} {q = 0} {r = 0} (rising-stiff (p .fy) (p .sn) (p .ln))
     (rising-middling (p .fy) (p .sn) (p .ln) (p .s)) (rising-tabled (divisor (p .fy) (p .place)) (p .ln))
+
+pub enough-on : (p : Panel) → Rising (Enough p)
+unfolding Enough
+enough-on p = rising-raised (raises p) (rising-by-01 p)
 
 -- the definition's number is the answer, and the answer is one
 pub thinnest : {p : Panel} {r : ℕ} → PanelSizes (p .fy) (p .sn) (p .ln) → r ≡ leastThickness p → Thinnest p r

@@ -1,0 +1,20 @@
+-- By cases of the first test.
+-- Assumes nothing.
+use borrow.Author.Needs.{needs}
+use Rattle.lines.proofs.panel.weak_beside.Statement.{statement}
+use Rattle.lines.proofs.panel.weak_beside.Tie as tie
+
+pub weak-beside-spec : {M : Type 1} → statement M
+weak-beside-spec =
+    tie.close
+    (tie.spec
+    (λ c. search needs)
+    (λ c. search needs)
+    (λ c. search needs)
+    (λ c κs. search needs)
+    (λ c. search needs)
+    (λ c. search needs)
+    (λ c. search needs)
+    (λ c κs. search needs)
+    (λ c. rw (← c .before .weak-line .ensures, c .if1 .taken))
+    (λ c. rw (← c .before .before .before .weak-line .ensures, c .before .before .if1 .left) (c .weak-line2 .ensures)))
