@@ -28,7 +28,7 @@ use Rattle.thickness.specs.declared.PanelPlace.the-variants.{Bare, Edged, Inner
 use Rattle.thickness.specs.LeastThickness.{byStiffness, EnoughBy01, raises, Enough, Tabled, divisor}
 use Rattle.thickness.proofs.Thinnest.{least-thickness, enough-on, raised-as}
 use Rattle.lines.specs.Lines.{edgePlace, panelPlace, panelAlpha, panelView, panelThickness, longerClear}
-use Rattle.lines.specs.Meaning.{OuterPanel, WeakEdge, PlaceIs, PanelBy01, ThinEdge, PanelEnough}
+use Rattle.lines.specs.Meaning.{OuterPanel, WeakEdge, PlaceIs, PanelBy01, Raises, PanelEnough}
 use Rattle.lines.proofs.Meaning.{says-outer-panel, says-weak, says-everywhere}
 use Rattle.lines.proofs.Floors.{panel-in}
 
@@ -122,19 +122,19 @@ module _ (f : List ℕ) (i j : ℕ) (e : refusal f ≡ 0) (hi : i < bays f X) (h
   from-01 {t} h =
       by-cases (says-everywhere f e) (panelAlpha f i j) _ _ _ t (h .stiff, h .middling, λ n. h .tabled n (panelPlace f i j) place-is)
 
-  says-thin-edge : Says (raises (panelView f i j)) (ThinEdge f i j)
+  says-raises : Says (raises (panelView f i j)) (Raises f i j)
   unfolding raises panelView
-  says-thin-edge = says-and3 (says-weak f i j) (says-everywhere f e) (says-lt 8000 (panelAlpha f i j))
+  says-raises = says-and3 (says-weak f i j) (says-everywhere f e) (says-lt 8000 (panelAlpha f i j))
 
   enough-here : {t : ℕ} → Enough (panelView f i j) t → PanelEnough f i j t
   unfolding Enough
   enough-here {t} h =
-      let c = in-either says-thin-edge _ _ t h in
+      let c = in-either says-raises _ _ t h in
       record { raised = λ w. raised-as (λ u. by-01) (λ u. from-01) (c .0 w); plain = λ n. by-01 (c .1 n) }
 
   asked-here : {t : ℕ} → PanelEnough f i j t → Enough (panelView f i j) t
   unfolding Enough
-  asked-here {t} h = by-either says-thin-edge _ _ t (λ w. raised-as (λ u. from-01) (λ u. by-01) (h .raised w)) (λ n. from-01 (h .plain n))
+  asked-here {t} h = by-either says-raises _ _ t (λ w. raised-as (λ u. from-01) (λ u. by-01) (h .raised w)) (λ n. from-01 (h .plain n))
 
   -- ---- the least of it
 

@@ -194,7 +194,7 @@ module _ (f : List ℕ) {slab : Slab} {s a : List (List ℕ)} (i j : ℕ) (p : A
   unfolding slabOf
   shared = rw (at .surveyed .shared) (refl, refl, refl, refl, refl, refl)
 
-  -- ny, nx and α at hand are the floor's
+  -- an outer panel, and one that has a weak edge, as nx, ny and the α at hand tell it
   module _ {outside weak : Bool}
       (eo : outside ≡ ((outerLine (slab .bays .y) j || outerLine (slab .bays .y) (j + 1)) || (outerLine (slab .bays .x) i || outerLine (slab .bays .x) (i + 1))))
       (ew : weak ≡ (outside && (weakAt (slab .bays .y) (rowOf a X) j || weakAt (slab .bays .x) (rowOf a Y) i))) where
@@ -218,28 +218,25 @@ module _ (f : List ℕ) {slab : Slab} {s a : List (List ℕ)} (i j : ℕ) (p : A
         )
         (outer-alone (outer f X j) (outer f X (j + 1)) (outer f Y i) (outer f Y (i + 1)) (below8000 X j) (below8000 X (j + 1)) (below8000 Y i) (below8000 Y (i + 1)))
 
-  pub view-is : {everywhere outside weak : Bool} {place : PanelPlace} {fy x y sn ln v w : ℕ}
-      → x ≡ getD (rowOf s X) i 0 - slab .cx → y ≡ getD (rowOf s Y) j 0 - slab .cy → v ≡ pairAt (rowOf a X) j → w ≡ pairAt (rowOf a Y) i
-      → everywhere ≡ isEverywhere (slab .layout)
-      → outside ≡ ((outerLine (slab .bays .y) j || outerLine (slab .bays .y) (j + 1)) || (outerLine (slab .bays .x) i || outerLine (slab .bays .x) (i + 1)))
-      → weak ≡ (outside && (weakAt (slab .bays .y) (rowOf a X) j || weakAt (slab .bays .x) (rowOf a Y) i))
-      → place ≡ placeOf outside weak (slab .layout) → fy ≡ slab .fy → sn ≡ min x y → ln ≡ max x y
-      → _≡_ {A = Panel} (record { everywhere = everywhere; place = place; fy = fy; sn = sn; ln = ln; s = v + w; weak = weak }) (panelView f i j)
-  unfolding panelView panelPlace outerPanel clearSpan
-  view-is ex ey ea eb ev eo ew ep ef es el =
-      cc (
-        shared .0,
-        shared .1,
-        shared .2,
-        shared .3,
-        shared .4,
-        shared .5,
-        at .surveyed .spans X .is i (clearing-x .index),
-        at .surveyed .spans Y .is j (clearing-y .index),
-        pair-is (p .alphas .x),
-        pair-is (p .alphas .y),
-        weak-is eo ew,
-      )
+    pub view-is : {everywhere : Bool} {place : PanelPlace} {fy x y sn ln v w : ℕ}
+        → x ≡ getD (rowOf s X) i 0 - slab .cx → y ≡ getD (rowOf s Y) j 0 - slab .cy → v ≡ pairAt (rowOf a X) j → w ≡ pairAt (rowOf a Y) i
+        → everywhere ≡ isEverywhere (slab .layout) → place ≡ placeOf outside weak (slab .layout) → fy ≡ slab .fy → sn ≡ min x y → ln ≡ max x y
+        → _≡_ {A = Panel} (record { everywhere = everywhere; place = place; fy = fy; sn = sn; ln = ln; s = v + w; weak = weak }) (panelView f i j)
+    unfolding panelView panelPlace outerPanel clearSpan
+    view-is ex ey ea eb ev ep ef es el =
+        cc (
+          shared .0,
+          shared .1,
+          shared .2,
+          shared .3,
+          shared .4,
+          shared .5,
+          at .surveyed .spans X .is i (clearing-x .index),
+          at .surveyed .spans Y .is j (clearing-y .index),
+          pair-is (p .alphas .x),
+          pair-is (p .alphas .y),
+          weak-is,
+        )
 
   module _ {view : Panel} (is : view ≡ panelView f i j) where
     pub asked : PanelSizes (view .fy) (view .sn) (view .ln)

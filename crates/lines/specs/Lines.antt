@@ -65,7 +65,7 @@ touches f d k = outer f d k || outer f d (k + 1)
 unfoldable pub outerPanel : List ℕ → ℕ → ℕ → Bool
 outerPanel f i j = touches f X j || touches f Y i
 
--- 02, Three: "an outer line with α below 8000", of lines 0 to last
+-- 02, Three: "an outer line with α below 8000", of lines 0 to last; "for columns, walls and masonry edges alike", so that the side's code is not asked
 abbrev pub weakLine : ℕ → ℕ → ℕ → Bool
 weakLine last α l = outerLine last l && ltb α 8000
 

@@ -53,10 +53,10 @@ pub record PanelBy01 (f : List ℕ) (i j t : ℕ) : Type 0 where
       → Tabled (divisor (grade f) place) (longerClear f i j) t
 
 -- 02, Three: "With beams everywhere and S above 8000, a panel having an outer line with α below 8000"
-abbrev pub ThinEdge : List ℕ → ℕ → ℕ → Type 0
-ThinEdge f i j = WeakEdge f i j × EachLine f (Beamed f) × (8000 < panelAlpha f i j)
+abbrev pub Raises : List ℕ → ℕ → ℕ → Type 0
+Raises f i j = WeakEdge f i j × EachLine f (Beamed f) × (8000 < panelAlpha f i j)
 
--- what is asked of t: there ten percent more than the answer of 01, elsewhere what 01 asks
+-- what is asked of t: there "10t ≥ 11 times the answer of 01", elsewhere what 01 asks
 pub record PanelEnough (f : List ℕ) (i j t : ℕ) : Type 0 where
-  pub raised : ThinEdge f i j → Raised (PanelBy01 f i j) t
-  pub plain : ¬ ThinEdge f i j → PanelBy01 f i j t
+  pub raised : Raises f i j → Raised (PanelBy01 f i j) t
+  pub plain : ¬ Raises f i j → PanelBy01 f i j t

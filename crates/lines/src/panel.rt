@@ -16,6 +16,8 @@ use crate::line::pair_alpha;
 use crate::slab::Slab;
 use layouts::Layout;
 use layouts::outer_line;
+use numbers::both;
+use numbers::either;
 use numbers::larger;
 use numbers::smaller;
 use plan::read::Bays;
@@ -78,7 +80,7 @@ fn outer_panel(nx: u32, ny: u32, i: u32, j: u32) -> bool
 fn weak_line(last: u32, alpha: u64, l: u32) -> bool
     ensures { λ r. ⌜ r ≡ weakLine last alpha l ⌝ }
 {
-    outer_line(last, l) && alpha < 8000
+    both(outer_line(last, l), alpha < 8000)
 }
 
 // Is one of the two beside bay k, whose α are at hand?
@@ -88,7 +90,7 @@ fn weak_beside(last: u32, a: &[u64; 13], k: u32) -> bool
 {
     let low = k as usize;
     let high = low + 1;
-    weak_line(last, a[low], k) || weak_line(last, a[high], k + 1)
+    either(weak_line(last, a[low], k), weak_line(last, a[high], k + 1))
 }
 
 // Is one of the panel's four lines? An inner panel has no outer line, and is not asked again.

@@ -28,6 +28,7 @@ panel-view-spec =
     (λ c κs. search needs)
     (λ c. search needs)
     (λ c. let s = c .before .before .before .before .before .before .before in
-    view-is _ _ _ (s .before .before .before .before .before .before .before .before .before .pre) (s .before .before .before .before .before .before .clear-span .ensures) (s .before .before .before .before .clear-span2 .ensures)
-    (s .before .before .pair-alpha .ensures .0) (s .pair-alpha2 .ensures .0) (c .before .before .before .before .is-everywhere .ensures)
-    (c .before .before .before .before .before .before .outer-panel .ensures) (c .before .before .before .before .before .weak-edge .ensures) (c .before .before .before .place .ensures) refl (c .before .smaller .ensures) (c .larger .ensures)))
+    view-is _ _ _ (s .before .before .before .before .before .before .before .before .before .pre) (c .before .before .before .before .before .before .outer-panel .ensures)
+    (c .before .before .before .before .before .weak-edge .ensures) (s .before .before .before .before .before .before .clear-span .ensures) (s .before .before .before .before .clear-span2 .ensures)
+    (s .before .before .pair-alpha .ensures .0) (s .pair-alpha2 .ensures .0) (c .before .before .before .before .is-everywhere .ensures) (c .before .before .before .place .ensures) refl
+    (c .before .smaller .ensures) (c .larger .ensures)))

@@ -1,4 +1,4 @@
--- By cases of the first test.
+-- Each callee's equation in turn.
 -- Assumes nothing.
 use borrow.Author.Needs.{needs}
 use Rattle.lines.proofs.panel.weak_beside.Statement.{statement}
@@ -16,5 +16,5 @@ weak-beside-spec =
     (λ c. search needs)
     (λ c. search needs)
     (λ c κs. search needs)
-    (λ c. rw (← c .before .weak-line .ensures, c .if1 .taken))
-    (λ c. rw (← c .before .before .before .weak-line .ensures, c .before .before .if1 .left) (c .weak-line2 .ensures)))
+    (λ c κs. search needs)
+    (λ c. cc))

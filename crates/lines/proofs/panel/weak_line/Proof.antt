@@ -1,4 +1,4 @@
--- By cases of the first test.
+-- Each callee's equation in turn.
 -- Assumes nothing.
 use borrow.Author.Needs.{needs}
 use Rattle.lines.proofs.panel.weak_line.Statement.{statement}
@@ -9,5 +9,5 @@ weak-line-spec =
     tie.close
     (tie.spec
     (λ c κs. search needs)
-    (λ c. rw (← c .before .outer-line .ensures, c .if1 .taken))
-    (λ c. rw (← c .before .outer-line .ensures, c .if1 .left)))
+    (λ c κs. search needs)
+    (λ c. rw (c .before .outer-line .ensures) at (c .both .ensures)))
