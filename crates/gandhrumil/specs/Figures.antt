@@ -3,7 +3,7 @@
 -- Assumes nothing.
 use mathlib.Core.Bool.{true, false}
 use mathlib.Core.List.{List, [], _∷_}
-use Prim.Native.Nat.{ℕ}
+use Prim.Native.Nat.{ℕ, _*_}
 use Rattle.numbers.specs.Figures.{Figure, figure}
 use Rattle.thickness.specs.declared.Panel.{Panel}
 use Rattle.thickness.specs.declared.PanelPlace.the-variants.{Inner}
@@ -33,18 +33,19 @@ area M = steelOf (queryOf M 1000 150 124 30 420) .value
 abbrev panel : ℕ → ℕ → ℕ → Panel
 panel sn ln S = record { everywhere = true; place = Inner; fy = 420; sn = sn; ln = ln; s = S; weak = false }
 
--- 02, Three: of lines 0 to 3, line l is beside the panel and has this α; no other line beside it is an outer one
+-- 02, Three: of lines 0 to 3, line l is beside the panel and has this α; no other line beside it is weak
 abbrev beside : Layout → ℕ → ℕ → ℕ → ℕ → ℕ → ℕ → Panel
 beside layout l α fy sn ln S =
     let weak = weakLine 3 α l in
-    record { everywhere = isEverywhere layout; place = placeOf (outerLine 3 l) weak layout; fy = fy; sn = sn; ln = ln; s = S; weak = weak }
+    record { everywhere = isEverywhere layout; place = placeOf (outerLine 3 l) weak; fy = fy; sn = sn; ln = ln; s = S; weak = weak }
 
--- at an edge with beams everywhere, fy 420; with edge beams only, 6,300 by 5,000
+-- at an edge with beams everywhere, fy 420. No floor has S 8,000 or 8,001 with such an edge, since no beam has α 0: the rule is asked all the same.
 abbrev edge : ℕ → ℕ → ℕ → ℕ → ℕ
 edge α sn ln S = leastThickness (beside Everywhere 0 α 420 sn ln S)
 
+-- a corner with edge beams only, 6,300 by 5,000, both of this α: S is above 8,000, and nothing is raised
 abbrev edgeOnly : ℕ → ℕ → ℕ
-edgeOnly α fy = leastThickness (beside OuterOnly 0 α fy 5000 6300 0)
+edgeOnly α fy = leastThickness (beside OuterOnly 0 α fy 5000 6300 (2 * α))
 
 unfoldable pub figures : List Figure
 figures =

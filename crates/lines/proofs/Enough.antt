@@ -5,19 +5,21 @@
 --     panel-least               the least thickness is the least that is asked: bit 64 and the panel query speak of one number
 --     says-thinner              a slab is thinner than it exactly where the slab's thickness is not enough
 -- Assumes nothing.
-use Prim.Native.Nat.{ℕ, _≤_, _<_, zero-le}
+use Prim.Native.Nat.{ℕ, _+_, _≤_, _<_}
 use mathlib.Core.Bool.{Bool, true, false, cond, _&&_, false≢true}
 use mathlib.Core.List.{List}
 use mathlib.Core.Logic.{inl, inr, ⊎-elim}
 use mathlib.Core.Path.{_≡_, refl, subst}
 use native.Mathlib.Decide.{decLt}
 use native.Mathlib.Omega.{arith}
-use lib.Dec.{ltb}
+use lib.Dec.{ltb, lit≤}
 use Rattle.numbers.specs.Least.{Least}
 use Rattle.numbers.specs.Tests.{Says}
 use Rattle.numbers.proofs.Tests.{says-lt, says-and, says-and3, says-as, by-test}
+use Rattle.plan.specs.declared.ways.Way.{Way}
 use Rattle.plan.specs.declared.ways.Way.the-variants.{X, Y}
-use Rattle.plan.specs.Plan.{bays, grade}
+use Rattle.plan.specs.Ways.{pick, across}
+use Rattle.plan.specs.Plan.{bays, grade, lastLine}
 use Rattle.layouts.specs.declared.Layout.{Layout}
 use Rattle.layouts.specs.declared.Layout.the-variants.{Everywhere, OuterOnly}
 use Rattle.layouts.specs.Layouts.{layoutOf}
@@ -27,10 +29,10 @@ use Rattle.thickness.specs.declared.PanelPlace.{PanelPlace}
 use Rattle.thickness.specs.declared.PanelPlace.the-variants.{Bare, Edged, Inner}
 use Rattle.thickness.specs.LeastThickness.{byStiffness, EnoughBy01, raises, Enough, Tabled, divisor}
 use Rattle.thickness.proofs.Thinnest.{least-thickness, enough-on, raised-as}
-use Rattle.lines.specs.Lines.{edgePlace, panelPlace, panelAlpha, panelView, panelThickness, longerClear}
-use Rattle.lines.specs.Meaning.{OuterPanel, WeakEdge, PlaceIs, PanelBy01, Raises, PanelEnough}
+use Rattle.lines.specs.Lines.{lineAlpha, panelPlace, panelAlpha, panelView, panelThickness, longerClear}
+use Rattle.lines.specs.Meaning.{EndBay, OuterPanel, EdgeBeams, WeakEdge, PlaceIs, PanelBy01, Raises, PanelEnough}
 use Rattle.lines.proofs.Meaning.{says-outer-panel, says-weak, says-everywhere}
-use Rattle.lines.proofs.Floors.{panel-in}
+use Rattle.lines.proofs.Floors.{panel-in, no-beam}
 
 -- ---- one of three rules, by two tests: what is asked in the case that is chosen is what is asked in each case
 
@@ -81,17 +83,27 @@ by-either {b = false} s P Q t to else = else (λ e. false≢true (s .passes e))
 module _ (f : List ℕ) (i j : ℕ) (e : refusal f ≡ 0) (hi : i < bays f X) (hj : j < bays f Y) where
   -- ---- the panel's place
 
-  edge-is : OuterPanel f i j → ¬ WeakEdge f i j → (layout : Layout) → layoutOf f ≡ layout → PlaceIs f i j (edgePlace layout)
-  edge-is o n Everywhere z = (o, λ d l h _. fair f e .layout-is .everywhere .0 z d l h, n)
-  edge-is o n OuterOnly z = (o, λ d l h out. fair f e .layout-is .outerOnly .0 z .0 d l h .1 out, n)
-  edge-is o n Rattle.layouts.specs.declared.Layout.the-variants.Bare z =
-      (o, inl (λ beams. fair f e .layout-is .bare .0 z X 0 zero-le (beams X 0 zero-le (inl refl))))
+  -- where no line has a beam, an outer panel has a weak edge: α is 0
+  bare-weak : layoutOf f ≡ Rattle.layouts.specs.declared.Layout.the-variants.Bare → OuterPanel f i j → WeakEdge f i j
+  bare-weak z = ⊎-elim (at-end Y hi) (at-end X hj)
+    where
+      weak : (d : Way) (l : ℕ) → l ≤ lastLine f d → lineAlpha f d l < 8000
+      weak d l h = rw (no-beam f d l (omega (arith, fair f e .layout-is .bare .0 z d l h))) (lit≤ tt)
+
+      at-end : (d : Way) → pick d j i < lastLine f d → EndBay f (across d) (pick d j i) → WeakEdge f i j
+      at-end d h (inl end) = (d, pick d j i, inl refl, inl end, weak d (pick d j i) (omega (arith, h)))
+      at-end d h (inr end) = (d, pick d j i + 1, inr refl, inr end, weak d (pick d j i + 1) (omega (arith, h)))
+
+  edge-beams : OuterPanel f i j → ¬ WeakEdge f i j → (layout : Layout) → layoutOf f ≡ layout → EdgeBeams f
+  edge-beams o n Everywhere z = λ d l h _. fair f e .layout-is .everywhere .0 z d l h
+  edge-beams o n OuterOnly z = λ d l h out. fair f e .layout-is .outerOnly .0 z .0 d l h .1 out
+  edge-beams o n Rattle.layouts.specs.declared.Layout.the-variants.Bare z = absurd (n (bare-weak z o))
 
   place-is : PlaceIs f i j (panelPlace f i j)
   unfolding panelPlace
   place-is =
       by-test (PlaceIs f i j) (says-outer-panel f hi hj)
-      (λ o. by-test (PlaceIs f i j) (says-weak f i j) (λ w. (o, inr w)) (λ n. edge-is o n (layoutOf f) refl)) (λ n. n)
+      (λ o. by-test (PlaceIs f i j) (says-weak f i j) (λ w. (o, inr w)) (λ n. (o, edge-beams o n (layoutOf f) refl, n))) (λ n. n)
 
   place-one : (p q : PanelPlace) → PlaceIs f i j p → PlaceIs f i j q → p ≡ q
   place-one Bare Bare x y = refl

@@ -220,7 +220,7 @@ module _ (f : List ℕ) {slab : Slab} {s a : List (List ℕ)} (i j : ℕ) (p : A
 
     pub view-is : {everywhere : Bool} {place : PanelPlace} {fy x y sn ln v w : ℕ}
         → x ≡ getD (rowOf s X) i 0 - slab .cx → y ≡ getD (rowOf s Y) j 0 - slab .cy → v ≡ pairAt (rowOf a X) j → w ≡ pairAt (rowOf a Y) i
-        → everywhere ≡ isEverywhere (slab .layout) → place ≡ placeOf outside weak (slab .layout) → fy ≡ slab .fy → sn ≡ min x y → ln ≡ max x y
+        → everywhere ≡ isEverywhere (slab .layout) → place ≡ placeOf outside weak → fy ≡ slab .fy → sn ≡ min x y → ln ≡ max x y
         → _≡_ {A = Panel} (record { everywhere = everywhere; place = place; fy = fy; sn = sn; ln = ln; s = v + w; weak = weak }) (panelView f i j)
     unfolding panelView panelPlace outerPanel clearSpan
     view-is ex ey ea eb ev ep ef es el =

@@ -69,25 +69,25 @@ outerPanel f i j = touches f X j || touches f Y i
 abbrev pub weakLine : ℕ → ℕ → ℕ → Bool
 weakLine last α l = outerLine last l && ltb α 8000
 
--- one of the two lines along d beside bay k across d is such a line; one of the panel's four is
-abbrev pub weakBeside : List ℕ → Way → ℕ → Bool
-weakBeside f d k = weakLine (lastLine f d) (lineAlpha f d k) k || weakLine (lastLine f d) (lineAlpha f d (k + 1)) (k + 1)
+-- one of lines k and k + 1 is such a line
+abbrev pub weakPair : ℕ → (ℕ → ℕ) → ℕ → Bool
+weakPair last α k = weakLine last (α k) k || weakLine last (α (k + 1)) (k + 1)
 
+-- of the two along d beside bay k across d
+abbrev pub weakBeside : List ℕ → Way → ℕ → Bool
+weakBeside f d = weakPair (lastLine f d) (lineAlpha f d)
+
+-- of the panel's four
 unfoldable pub weakEdge : List ℕ → ℕ → ℕ → Bool
 weakEdge f i j = weakBeside f X j || weakBeside f Y i
 
--- "outer panel without edge beams, outer with, inner": the outer lines have beams in each layout but the bare one
-abbrev pub edgePlace : Layout → PanelPlace
-edgePlace Everywhere = Edged
-edgePlace OuterOnly = Edged
-edgePlace Bare = Rattle.thickness.specs.declared.PanelPlace.the-variants.Bare
-
--- 02, Three: "an outer panel with such a beam counts as having none"
-abbrev pub placeOf : Bool → Bool → Layout → PanelPlace
-placeOf outside weak layout = cond outside (cond weak Rattle.thickness.specs.declared.PanelPlace.the-variants.Bare (edgePlace layout)) Inner
+-- "outer panel without edge beams, outer with, inner"; 02, Three: "an outer panel with such a beam counts as having none". A line without a beam has α 0,
+-- so that the same test tells both of the first (`Meaning: PlaceIs` names them apart).
+abbrev pub placeOf : Bool → Bool → PanelPlace
+placeOf outside weak = cond outside (cond weak Rattle.thickness.specs.declared.PanelPlace.the-variants.Bare Edged) Inner
 
 unfoldable pub panelPlace : List ℕ → ℕ → ℕ → PanelPlace
-panelPlace f i j = placeOf (outerPanel f i j) (weakEdge f i j) (layoutOf f)
+panelPlace f i j = placeOf (outerPanel f i j) (weakEdge f i j)
 
 -- "beams everywhere"
 abbrev pub isEverywhere : Layout → Bool

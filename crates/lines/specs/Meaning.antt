@@ -41,7 +41,7 @@ PlaceIs f i j Bare = OuterPanel f i j × ((¬ EdgeBeams f) ⊎ WeakEdge f i j)
 PlaceIs f i j Edged = OuterPanel f i j × EdgeBeams f × ¬ WeakEdge f i j
 PlaceIs f i j Inner = ¬ OuterPanel f i j
 
--- "Least thickness" of 01: what is asked of the thickness t of the panel of x bay i and y bay j
+-- "Least thickness" of 01, with the place as 02, Three, has it: what is asked of the thickness t of the panel of x bay i and y bay j
 pub record PanelBy01 (f : List ℕ) (i j t : ℕ) : Type 0 where
   -- "beams everywhere, S > 80000"
   pub stiff : EachLine f (Beamed f) → 80000 < panelAlpha f i j → Stiff (grade f) (shorterClear f i j) (longerClear f i j) t

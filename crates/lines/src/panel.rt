@@ -7,7 +7,7 @@ ghost use lib.ListN.{getD};
 ghost use Rattle.plan.specs.declared.ways.Way.the-variants.{X, Y};
 ghost use Rattle.plan.specs.Plan.{thickness};
 ghost use Rattle.layouts.specs.Layouts.{outerLine};
-ghost use Rattle.lines.specs.Lines.{isEverywhere, edgePlace, weakLine, placeOf, panelView, panelThickness};
+ghost use Rattle.lines.specs.Lines.{isEverywhere, weakLine, placeOf, panelView, panelThickness};
 ghost use Rattle.lines.specs.Rows.{rowOf, weakAt};
 ghost use Rattle.lines.specs.Asked.{Clearing, AtPanel};
 use crate::line::X;
@@ -36,25 +36,15 @@ pub fn is_everywhere(layout: Layout) -> bool
     }
 }
 
-fn edge_place(layout: Layout) -> PanelPlace
-    ensures { λ r. ⌜ r ≡ edgePlace layout ⌝ }
-{
-    match layout {
-        Layout::Everywhere => PanelPlace::Edged,
-        Layout::OuterOnly => PanelPlace::Edged,
-        Layout::Bare => PanelPlace::Bare,
-    }
-}
-
-// An outer panel with a weak edge beam counts as having none.
-fn place(outside: bool, weak: bool, layout: Layout) -> PanelPlace
-    ensures { λ r. ⌜ r ≡ placeOf outside weak layout ⌝ }
+// An outer panel with a weak edge counts as having no beam there; without one α is 0.
+fn place(outside: bool, weak: bool) -> PanelPlace
+    ensures { λ r. ⌜ r ≡ placeOf outside weak ⌝ }
 {
     if outside {
         if weak {
             PanelPlace::Bare
         } else {
-            edge_place(layout)
+            PanelPlace::Edged
         }
     } else {
         PanelPlace::Inner
@@ -83,7 +73,7 @@ fn weak_line(last: u32, alpha: u64, l: u32) -> bool
     both(outer_line(last, l), alpha < 8000)
 }
 
-// Is one of the two beside bay k, whose α are at hand?
+// Is one of the two lines beside bay k weak? Their α are at hand.
 fn weak_beside(last: u32, a: &[u64; 13], k: u32) -> bool
     requires { ⌜ k < 12 ⌝ }
     ensures { λ r. ⌜ r ≡ weakAt last (now (a .entry)) k ⌝ }
@@ -93,7 +83,7 @@ fn weak_beside(last: u32, a: &[u64; 13], k: u32) -> bool
     either(weak_line(last, a[low], k), weak_line(last, a[high], k + 1))
 }
 
-// Is one of the panel's four lines? An inner panel has no outer line, and is not asked again.
+// Is one of the panel's four lines weak? An inner panel has no outer line, so nothing is asked.
 fn weak_edge(outside: bool, bays: Bays, alphas: &[[u64; 13]; 2], i: u32, j: u32) -> bool
     requires { ⌜ (i < 12) × (j < 12) ⌝ }
     ensures { λ r. ⌜ r ≡ (outside && (weakAt (bays .y) (rowOf (now (alphas .entry)) X) j || weakAt (bays .x) (rowOf (now (alphas .entry)) Y) i)) ⌝ }
@@ -134,7 +124,7 @@ fn panel_view(
     let weak = weak_edge(outside, slab.bays, alphas, i, j);
     Panel {
         everywhere: is_everywhere(layout),
-        place: place(outside, weak, layout),
+        place: place(outside, weak),
         fy: slab.fy as u64,
         sn: smaller(x, y),
         ln: larger(x, y),
@@ -157,7 +147,7 @@ pub fn panel_thickness(
     least_thickness(panel_view(f, slab, spans, alphas, i, j))
 }
 
-// Is t enough for the panel? By 01's inequality itself: the least thickness would take a division.
+// Is t enough for the panel? By 01's inequality, of the largest answer that t allows: the least thickness would take a division by a variable.
 pub fn thick_enough(
     f: &[u8],
     slab: Slab,

@@ -1,6 +1,7 @@
--- The thickness of specs/ is the least that 01 and 02, Three, ask, between 90 and 465, and no other number is it.
+-- The thickness of specs/ is the least that 01 and 02, Three, ask, between 90 and 465, and the only such number.
 -- Each of the three rules of 01 asks n ≤ t·d and t ≥ m, so its least t is n/d rounded up; 422 meets each, so none is above it.
--- Ten percent more of the least of anything is the least with ten percent more (`least-raised`), so that the three rules are not looked at again.
+-- Whatever P is, its least number raised by ten percent is the least that `Raised P` allows (`least-raised`), so that the three rules are not looked at
+-- again.
 -- And what is enough is enough for every t above it (`enough-on`), so that t is below the least exactly where it is not enough.
 -- Assumes nothing.
 use Prim.Native.Nat.{ℕ, _+_, _*_, _-_, _/_, _≤_, _<_, min, max}
@@ -125,7 +126,7 @@ allowed true a t =
     says-one (says-le (raised a) t) (says-as (λ h. omega (arith, h)) (λ h. omega (arith, h)) (says-le a (10 * t / 11)))
 allowed false a t = refl
 
--- what is asked as 02 has it is the same of two statements that say the same
+-- `Raised` is the same of statements that hold of the same numbers
 pub raised-as : {P Q : ℕ → Type 0} {t : ℕ} → ((u : ℕ) → P u → Q u) → ((u : ℕ) → Q u → P u) → Raised P t → Raised Q t
 raised-as to from r =
     record {

@@ -139,13 +139,20 @@ fn raises(p: Panel) -> bool
     p.weak && both(p.everywhere, 8000 < p.s)
 }
 
-// Ten percent more, where it is needed.
+fn ten_percent_more(answer: u64) -> u64
+    requires { ⌜ Answered answer ⌝ }
+    ensures { λ r. ⌜ r ≡ up (11 * answer) 10 ⌝ }
+{
+    rounded_up(11 * answer, 10)
+}
+
+// Where it is needed.
 fn raise(needed: bool, answer: u64) -> u64
     requires { ⌜ Answered answer ⌝ }
     ensures { λ r. ⌜ r ≡ cond needed (raised answer) answer ⌝ }
 {
     if needed {
-        rounded_up(11 * answer, 10)
+        ten_percent_more(answer)
     } else {
         answer
     }

@@ -10,7 +10,6 @@ unfolding raised
 raise-spec =
     tie.close
     (tie.spec
-    (λ c. search needs)
     (λ c κs. search needs)
-    (λ c. rw (c .before .if1 .taken) (c .rounded-up .ensures))
+    (λ c. rw (c .before .if1 .taken) (c .ten-percent-more .ensures))
     (λ c. search needs))
