@@ -223,6 +223,20 @@ fn weak_edges_of_a_single_bay() {
     assert_eq!(panel(&floor.bytes(), 0, 0), (0, 187));
 }
 
+/// Bays of 12,000 between columns of 200, fy 520 and weak beams everywhere. At a corner S is 8,534: 11800 times
+/// 1.1714/(36 + 5·0.01335) is 383.3, and ten percent more than 384 is 422.4. Elsewhere S is not above 8000, and
+/// 11800/28 is 421.4.
+#[test]
+fn the_thickest_panel() {
+    let mut floor = edged((900, 520), (900, 520));
+    (floor.t, floor.fy, floor.cx, floor.cy) = (430, 520, 200, 200);
+    (floor.x_spans, floor.y_spans) = (vec![12_000; 3], vec![12_000; 3]);
+    let alphas = [2_774, 1_493, 1_493, 2_774];
+    assert_eq!(x_line_alphas(&floor.bytes()), alphas);
+    assert_eq!(panel(&floor.bytes(), 0, 0), (0, 423));
+    assert_eq!(panel(&floor.bytes(), 1, 0), (0, 422));
+}
+
 /// "for columns, walls and masonry edges alike"
 #[test]
 fn weak_edges_whatever_the_sides() {
