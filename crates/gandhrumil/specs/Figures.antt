@@ -85,6 +85,7 @@ figures =
     ∷ figure "least thickness, 1,000 by 1,000, S 80,001, edge α 8,000" (edge 8000 1000 1000 80001) 90
     ∷ figure "least thickness, 1,000 by 1,000, S 80,000, edge α 7,999" (edge 7999 1000 1000 80000) 138
     ∷ figure "least thickness, 1,000 by 1,000, S 80,000, edge α 8,000" (edge 8000 1000 1000 80000) 125
+    ∷ figure "least thickness, fy 520: 11,800 by 11,800, S 8,001, edge α 7,999" (leastThickness (beside Everywhere 0 7999 520 11800 11800 8001)) 423
     ∷ figure "least thickness, fy 280: 6,300, edge beams only, α 7,999" (edgeOnly 7999 280) 191
     ∷ figure "least thickness, fy 280: 6,300, edge beams only, α 8,000" (edgeOnly 8000 280) 175
     ∷ figure "least thickness, fy 420: 6,300, edge beams only, α 7,999" (edgeOnly 7999 420) 210

@@ -142,7 +142,7 @@ pub fn panel_thickness(
     j: u32,
 ) -> u64
     requires { ⌜ AtPanel (now f) slab (now spans) (now alphas) i j ⌝ }
-    ensures { λ r. ⌜ (r ≡ panelThickness (now (f .entry)) i j) × (90 ≤ r) × (r ≤ 465) ⌝ }
+    ensures { λ r. ⌜ (r ≡ panelThickness (now (f .entry)) i j) × (90 ≤ r) × (r ≤ 423) ⌝ }
 {
     least_thickness(panel_view(f, slab, spans, alphas, i, j))
 }

@@ -1,11 +1,12 @@
--- The thickness of specs/ is the least that 01 and 02, Three, ask, between 90 and 465, and the only such number.
--- Each of the three rules of 01 asks n ≤ t·d and t ≥ m, so its least t is n/d rounded up; 422 meets each, so none is above it.
+-- The thickness of specs/ is the least that 01 and 02, Three, ask, between 90 and 423, and the only such number.
+-- Each of the three rules of 01 asks n ≤ t·d and t ≥ m, so its least t is n/d rounded up; 422 meets each, so none is above it, and 384 meets the two that
+-- can be raised.
 -- Whatever P is, its least number raised by ten percent is the least that `Raised P` allows (`least-raised`), so that the three rules are not looked at
 -- again.
 -- And what is enough is enough for every t above it (`enough-on`), so that t is below the least exactly where it is not enough.
 -- Assumes nothing.
 use Prim.Native.Nat.{ℕ, _+_, _*_, _-_, _/_, _≤_, _<_, min, max}
-use mathlib.Core.Bool.{Bool, true, false, cond, _&&_}
+use mathlib.Core.Bool.{Bool, true, false, cond, _&&_, false≢true}
 use mathlib.Core.List.{[]}
 use mathlib.Core.Path.{_≡_, refl}
 use native.Mathlib.Omega.{arith}
@@ -61,27 +62,30 @@ shorter-most p = omega arith
 abbrev Found : ℕ → (ℕ → Type 0) → ℕ → Type 0
 Found most P p = Least P p × (90 ≤ p) × (p ≤ most)
 
-found : {P : ℕ → Type 0} {p : ℕ} → Least P p → 90 ≤ p → P 422 → Found 422 P p
-found l from enough = (l, from, l .first 422 enough)
+found : {P : ℕ → Type 0} {p : ℕ} (most : ℕ) → Least P p → 90 ≤ p → P most → Found most P p
+found most l from enough = (l, from, l .first most enough)
+
+wider : {P : ℕ → Type 0} {p : ℕ} → Found 384 P p → Found 422 P p
+wider l = (l .0, l .1, omega (arith, l .2))
 
 module _ (fy sn ln S : ℕ) (p : PanelSizes fy sn ln) where
-  least-stiff : Found 422 (Stiff fy sn ln) (stiff fy sn ln)
+  least-stiff : Found 384 (Stiff fy sn ln) (stiff fy sn ln)
   unfolding Stiff stiff
   least-stiff =
       let l = least-up-scaled 1400 (36 * sn + 9 * ln) (ln * sn * (1120 + fy)) 90 (omega arith) in
-      found l (l .holds .1) (omega (arith, p .most ⊗ # sn ⊗ (# 1120 ⊕ p .grade)), lit≤ tt)
+      found 384 l (l .holds .1) (omega (arith, p .most ⊗ # sn ⊗ (# 1120 ⊕ p .grade)), lit≤ tt)
 
-  least-middling : Found 422 (Middling fy sn ln S) (middling fy sn ln S)
+  least-middling : Found 384 (Middling fy sn ln S) (middling fy sn ln S)
   unfolding Middling middling
   least-middling =
       let l = least-up-scaled 1400 (1440000 * sn + 5 * ln * (S - 8000)) (40000 * ln * sn * (1120 + fy)) 125 (omega arith) in
-      found l (omega (arith, l .holds .1)) (omega (arith, # 40000 ⊗ p .most ⊗ # sn ⊗ (# 1120 ⊕ p .grade)), lit≤ tt)
+      found 384 l (omega (arith, l .holds .1)) (omega (arith, # 40000 ⊗ p .most ⊗ # sn ⊗ (# 1120 ⊕ p .grade)), lit≤ tt)
 
   least-tabled : (n : ℕ) → 28 ≤ n → Found 422 (Tabled n ln) (tabled n ln)
   unfolding Tabled tabled
   least-tabled n h =
       let l = least-up ln 125 {d = n} (omega arith) in
-      found l (omega (arith, l .holds .1)) (omega arith, lit≤ tt)
+      found 422 l (omega (arith, l .holds .1)) (omega arith, lit≤ tt)
 
 -- ---- the case that is taken
 
@@ -97,7 +101,7 @@ by-case G everywhere S {P} {Q} {R} {p} {q} {r} x y z = told (everywhere && ltb 8
 least-by-01 : (p : Panel) → PanelSizes (p .fy) (p .sn) (p .ln) → Found 422 (EnoughBy01 p) (answerOf01 p)
 unfolding EnoughBy01 answerOf01
 least-by-01 p h =
-    by-case (Found 422) (p .everywhere) (p .s) (least-stiff (p .fy) (p .sn) (p .ln) (p .s) h) (least-middling (p .fy) (p .sn) (p .ln) (p .s) h)
+    by-case (Found 422) (p .everywhere) (p .s) (wider (least-stiff (p .fy) (p .sn) (p .ln) (p .s) h)) (wider (least-middling (p .fy) (p .sn) (p .ln) (p .s) h))
     (least-tabled (p .fy) (p .sn) (p .ln) (p .s) h (divisor (p .fy) (p .place)) (divisor-in (p .fy) (p .place) .0))
 
 -- an answer of 01 is one of which ten percent more can be worked out
@@ -114,10 +118,28 @@ least-raised {a = a} l =
       first = λ t r. omega (arith, least-one (r .of01) l, r .more);
     }
 
-found-raised : (b : Bool) {P : ℕ → Type 0} {a : ℕ} → Found 422 P a → Found 465 (cond b (Raised P) P) (cond b (raised a) a)
+-- the rules that are raised have lower answers than the table
+unraised : (p : Panel) → PanelSizes (p .fy) (p .sn) (p .ln) → raises p ≡ true → Found 384 (EnoughBy01 p) (answerOf01 p)
+unfolding EnoughBy01 answerOf01 raises
+unraised p h more =
+    told (p .everywhere && ltb 80000 (p .s)) (p .everywhere && ltb 8000 (p .s)) (right (p .weak) (p .everywhere && ltb 8000 (p .s)) more)
+  where
+    right : (a b : Bool) → (a && b) ≡ true → b ≡ true
+    right true b e = e
+    right false b e = absurd (false≢true e)
+
+    told : (a b : Bool) → b ≡ true
+        → Found 384
+        (cond a (Stiff (p .fy) (p .sn) (p .ln)) (cond b (Middling (p .fy) (p .sn) (p .ln) (p .s)) (Tabled (divisor (p .fy) (p .place)) (p .ln))))
+        (cond a (stiff (p .fy) (p .sn) (p .ln)) (cond b (middling (p .fy) (p .sn) (p .ln) (p .s)) (tabled (divisor (p .fy) (p .place)) (p .ln))))
+    told true b e = least-stiff (p .fy) (p .sn) (p .ln) (p .s) h
+    told false true e = least-middling (p .fy) (p .sn) (p .ln) (p .s) h
+    told false false e = absurd (false≢true e)
+
+found-raised : (b : Bool) {P : ℕ → Type 0} {a : ℕ} → (b ≡ true → Found 384 P a) → Found 422 P a → Found 423 (cond b (Raised P) P) (cond b (raised a) a)
 unfolding raised
-found-raised true l = (least-raised (l .0), omega (arith, l .1), omega (arith, l .2))
-found-raised false l = (l .0, l .1, omega (arith, l .2))
+found-raised true low l = (least-raised (l .0), omega (arith, l .1), omega (arith, low refl .2))
+found-raised false low l = (l .0, l .1, omega (arith, l .2))
 
 -- t is that much or more exactly where 10t/11, rounded down, is the answer of 01 or more: a test with no division by a variable
 pub allowed : (b : Bool) (a t : ℕ) → leb (cond b (raised a) a) t ≡ leb a (cond b (10 * t / 11) t)
@@ -135,9 +157,9 @@ raised-as to from r =
       more = r .more;
     }
 
-pub least-thickness : (p : Panel) → PanelSizes (p .fy) (p .sn) (p .ln) → Found 465 (Enough p) (leastThickness p)
+pub least-thickness : (p : Panel) → PanelSizes (p .fy) (p .sn) (p .ln) → Found 423 (Enough p) (leastThickness p)
 unfolding Enough leastThickness
-least-thickness p h = found-raised (raises p) (least-by-01 p h)
+least-thickness p h = found-raised (raises p) (unraised p h) (least-by-01 p h)
 
 -- ---- a thicker slab is enough too
 

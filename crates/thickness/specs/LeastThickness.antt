@@ -105,4 +105,4 @@ pub record Thinnest (p : Panel) (r : ℕ) : Type 0 where
   pub least : Least (Enough p) r
   pub is : r ≡ leastThickness p
   pub from : 90 ≤ r
-  pub most : r ≤ 465
+  pub most : r ≤ 423
