@@ -16,7 +16,7 @@
 #include <stdint.h>
 
 /* Rises by 1 with each change of what is declared here and each change of an answer. docs/CHANGES.md says what a caller must do. */
-#define GANDHRUMIL_VERSION 3
+#define GANDHRUMIL_VERSION 4
 
 /* A call uses less than GANDHRUMIL_STACK bytes of stack. Measured on floors of 12 by 12 bays, clear and not, the deepest uses less
  * than 6 KiB on aarch64, and in version 1 on x86-64 too, under an emulator; the rest is margin. */
@@ -69,7 +69,8 @@ gandhrumil_answer gandhrumil_open(const uint8_t *floor, size_t floor_len, uint32
 gandhrumil_answer gandhrumil_change(uint8_t *floor, size_t floor_len, uint32_t *table, size_t table_len,
                                     uint32_t *governing, size_t governing_len, const uint8_t *change, size_t change_len);
 
-/* The least thickness in mm of the panel of x bay x and y bay y, each counted from 0. Tries 1 to 7, then 10; 0 where refused. */
+/* The least thickness in mm of the panel of x bay x and y bay y, each counted from 0; no more than 423. A beam on an outer line that is less than
+ * 0.80 times as stiff as its slab makes the panels along that line ask for more. Tries 1 to 7, then 10; 0 where refused. */
 gandhrumil_answer gandhrumil_panel(const uint8_t *floor, size_t floor_len, uint64_t x, uint64_t y);
 
 /* The least whole area of steel in mm2 for the moment m, 0 to 2,000,000,000 N.cm, on a width b, 1 to 12,000 mm, of a slab of thickness t, 90 to

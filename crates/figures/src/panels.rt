@@ -16,6 +16,7 @@ fn inner(number: u32, theirs: u32, everywhere: bool, sn: u64, ln: u64, s: u64)
         sn: sn,
         ln: ln,
         s: s,
+        weak: false,
     };
     formula(number, theirs, 1000 * least_thickness(panel));
 }

@@ -11,7 +11,7 @@ use Rattle.floor.specs.Refusal.{countOk, everyRecord, firstOk, floorChecks, kin
 use Rattle.frames.specs.Table.{viewIn}
 use Rattle.layouts.specs.Layouts.{beamsOk, keeps, kept, keptAlong, layoutOf}
 use Rattle.limits.specs.Limits.{adjoining, astray, astrayColumn, few, heavy, slenderPanel, somePair, sumOf, thinPanel, unbalanced, unequalPanel, uneven, verdict}
-use Rattle.lines.specs.Lines.{below, clearSpan, lineAlpha, outerPanel, pairAlpha, panelPlace, panelThickness, panelView}
+use Rattle.lines.specs.Lines.{below, clearSpan, lineAlpha, outerPanel, pairAlpha, panelPlace, panelThickness, panelView, weakEdge}
 use Rattle.lines.specs.Slabs.{slabOf}
 use Rattle.numbers.specs.Chains.{tried}
 use Rattle.numbers.specs.Records.{put}
@@ -29,7 +29,7 @@ use Rattle.strips.specs.EndTable.{endPercent, endRow}
 use Rattle.strips.specs.Moments.{clearLength, staticMoment}
 use Rattle.strips.specs.Ratios.{spanRatio, stiffnessRatio, torsionRatio}
 use Rattle.strips.specs.Strips.{beamShare, outerNegative, part, split}
-use Rattle.thickness.specs.LeastThickness.{divisor, leastThickness, middling, stiff, tabled}
+use Rattle.thickness.specs.LeastThickness.{answerOf01, divisor, leastThickness, middling, raised, raises, stiff, tabled}
 use Rattle.floor.proofs.Meaning.{given}
 use Rattle.limits.specs.Meaning.{Broken}
 use Rattle.limits.proofs.Meaning.{broken, clear-is}
@@ -51,7 +51,7 @@ first = record { way = X; line = 0; span = 0 }
 
 computed : (refusal oneBay ≡ 0) × (verdict oneBay ≡ 1) × (refusal garage ≡ 0) × (verdict garage ≡ 0) × (changeRefusal garage lighter ≡ 0)
     × (refusal (changed garage lighter) ≡ 0) × (verdict (changed garage lighter) ≡ 0) × (recordOf (viewIn garage first) ≡ firstSpan) × (bays garage X ≡ 5)
-unfolding changeOk changed changeChecks changeRefusal countOk everyRecord firstOk floorChecks kindOk lengthOk recordOk refusal valueChecks beamsOk keeps kept keptAlong layoutOf adjoining astray astrayColumn few heavy slenderPanel somePair sumOf thinPanel unbalanced unequalPanel uneven verdict below clearSpan lineAlpha outerPanel pairAlpha panelPlace panelThickness panelView slabOf tried put until le16 le32 bays offset value changeable countOf startOf total unlistedZero beamOk columnOk columnsOk loadsOk materialsOk offsetOk sidesOk sizesOk spanOk valuesOk betweenStrips endStrips outerPart percentsOf recordOf highEnd lineView lowEnd outerEnd viewOf spanWork alpha columnStripWidth frameWidth transverseSpan edgeTorsion flange flangedInertia inertia torsion endPercent endRow clearLength staticMoment spanRatio stiffnessRatio torsionRatio beamShare outerNegative part split divisor leastThickness middling stiff tabled
+unfolding changeOk changed changeChecks changeRefusal countOk everyRecord firstOk floorChecks kindOk lengthOk recordOk refusal valueChecks beamsOk keeps kept keptAlong layoutOf adjoining astray astrayColumn few heavy slenderPanel somePair sumOf thinPanel unbalanced unequalPanel uneven verdict below clearSpan lineAlpha outerPanel pairAlpha panelPlace panelThickness panelView weakEdge slabOf tried put until le16 le32 bays offset value changeable countOf startOf total unlistedZero beamOk columnOk columnsOk loadsOk materialsOk offsetOk sidesOk sizesOk spanOk valuesOk betweenStrips endStrips outerPart percentsOf recordOf highEnd lineView lowEnd outerEnd viewOf spanWork alpha columnStripWidth frameWidth transverseSpan edgeTorsion flange flangedInertia inertia torsion endPercent endRow clearLength staticMoment spanRatio stiffnessRatio torsionRatio beamShare outerNegative part split answerOf01 divisor leastThickness middling raised raises stiff tabled
 computed = (refl, refl, refl, refl, refl, refl, refl, refl, refl)
 
 -- ---- from that

@@ -1,11 +1,11 @@
--- The starred figures of 01 are what the definitions make, by computing: were one of them wrong, the claim would fail.
+-- The starred figures of 01, and those of 02, Three, are what the definitions make, by computing: were one of them wrong, the claim would fail.
 -- Assumes nothing.
 use mathlib.Core.List.{[]}
 use mathlib.Core.Path.{_≡_, refl}
 use Rattle.numbers.specs.Figures.{wrong}
 use Rattle.stiffness.specs.Sections.{inertia, torsion, flange, flangedInertia, edgeTorsion}
 use Rattle.stiffness.specs.Lines.{alpha}
-use Rattle.thickness.specs.LeastThickness.{stiff, middling, tabled, leastThickness}
+use Rattle.thickness.specs.LeastThickness.{divisor, raises, stiff, middling, tabled, answerOf01, raised, leastThickness}
 use Rattle.strips.specs.Moments.{staticMoment}
 use Rattle.strips.specs.Ratios.{torsionRatio}
 use Rattle.strips.specs.Strips.{part, outerNegative, beamShare, split}
@@ -17,5 +17,5 @@ use Rattle.steel.specs.Steel.{minimumArea, strainArea, limitsOf, steelOf}
 use Rattle.gandhrumil.specs.Figures.{figures}
 
 pub figures-hold : wrong figures ≡ []
-unfolding figures inertia torsion flange flangedInertia edgeTorsion alpha stiff middling tabled leastThickness staticMoment torsionRatio part outerNegative beamShare split materialsOk depthListed inRange depthOf K first firstWithin leastWithin minimumArea strainArea limitsOf steelOf
+unfolding figures inertia torsion flange flangedInertia edgeTorsion alpha divisor raises stiff middling tabled answerOf01 raised leastThickness staticMoment torsionRatio part outerNegative beamShare split materialsOk depthListed inRange depthOf K first firstWithin leastWithin minimumArea strainArea limitsOf steelOf
 figures-hold = refl

@@ -1,12 +1,16 @@
--- "Figures to hold it against": those marked *, of every layer, as one table. α is 01's worked again as 02, Two, asks, with two more of it: docs/FIGURES.md
--- has each by hand. proofs/FiguresHold computes them under one claim.
+-- "Figures to hold it against": those marked *, of every layer, as one table. α is 01's worked again as 02, Two, asks, with two more of it, and the least
+-- thicknesses at an edge are those that 02, Three, asks: docs/FIGURES.md has each by hand. proofs/FiguresHold computes them under one claim.
 -- Assumes nothing.
 use mathlib.Core.Bool.{true, false}
 use mathlib.Core.List.{List, [], _∷_}
-use Prim.Native.Nat.{ℕ}
+use Prim.Native.Nat.{ℕ, _*_}
 use Rattle.numbers.specs.Figures.{Figure, figure}
 use Rattle.thickness.specs.declared.Panel.{Panel}
 use Rattle.thickness.specs.declared.PanelPlace.the-variants.{Inner}
+use Rattle.layouts.specs.declared.Layout.{Layout}
+use Rattle.layouts.specs.declared.Layout.the-variants.{Everywhere, OuterOnly}
+use Rattle.layouts.specs.Layouts.{outerLine}
+use Rattle.lines.specs.Lines.{weakLine, placeOf, isEverywhere}
 use Rattle.stiffness.specs.Sections.{edgeTorsion}
 use Rattle.stiffness.specs.Lines.{alpha}
 use Rattle.thickness.specs.LeastThickness.{leastThickness}
@@ -27,7 +31,21 @@ area M = steelOf (queryOf M 1000 150 124 30 420) .value
 
 -- "fy 420", beams everywhere
 abbrev panel : ℕ → ℕ → ℕ → Panel
-panel sn ln S = record { everywhere = true; place = Inner; fy = 420; sn = sn; ln = ln; s = S }
+panel sn ln S = record { everywhere = true; place = Inner; fy = 420; sn = sn; ln = ln; s = S; weak = false }
+
+-- 02, Three: of lines 0 to 3, line l is beside the panel and has this α; no other line beside it is weak
+abbrev beside : Layout → ℕ → ℕ → ℕ → ℕ → ℕ → ℕ → Panel
+beside layout l α fy sn ln S =
+    let weak = weakLine 3 α l in
+    record { everywhere = isEverywhere layout; place = placeOf (outerLine 3 l) weak; fy = fy; sn = sn; ln = ln; s = S; weak = weak }
+
+-- at an edge with beams everywhere, fy 420. No floor has S 8,000 or 8,001 with such an edge, since no beam has α 0: the rule is asked all the same.
+abbrev edge : ℕ → ℕ → ℕ → ℕ → ℕ
+edge α sn ln S = leastThickness (beside Everywhere 0 α 420 sn ln S)
+
+-- a corner with edge beams only, 6,300 by 5,000, both of this α: S is above 8,000, and nothing is raised
+abbrev edgeOnly : ℕ → ℕ → ℕ
+edgeOnly α fy = leastThickness (beside OuterOnly 0 α fy 5000 6300 (2 * α))
 
 unfoldable pub figures : List Figure
 figures =
@@ -54,6 +72,26 @@ figures =
     ∷ figure "slab of that column strip" (strips .slab) 4670040
     ∷ figure "least thickness, fy 420: 6,300 by 5,000, S 92,000" (leastThickness (panel 5000 6300 92000)) 147
     ∷ figure "least thickness, fy 420: 5,500 by 5,000, S 68,000" (leastThickness (panel 5000 5500 68000)) 137
+    ∷ figure "least thickness, fy 420: 6,300 by 5,000, S 80,001, edge α 7,999" (edge 7999 5000 6300 80001) 162
+    ∷ figure "least thickness, fy 420: 6,300 by 5,000, S 80,001, edge α 8,000" (edge 8000 5000 6300 80001) 147
+    ∷ figure "least thickness, fy 420: 6,300 by 5,000, S 80,000, edge α 7,999" (edge 7999 5000 6300 80000) 162
+    ∷ figure "least thickness, fy 420: 6,300 by 5,000, S 80,000, edge α 8,000" (edge 8000 5000 6300 80000) 147
+    ∷ figure "least thickness, fy 420: 6,300 by 5,000, S 8,001, edge α 7,999" (edge 7999 5000 6300 8001) 213
+    ∷ figure "least thickness, fy 420: 6,300 by 5,000, S 8,001, edge α 8,000" (edge 8000 5000 6300 8001) 193
+    ∷ figure "least thickness, fy 420: 6,300 by 5,000, S 8,000, edge α 7,999" (edge 7999 5000 6300 8000) 210
+    ∷ figure "least thickness, fy 420: 6,300 by 5,000, S 8,000, edge α 8,000" (edge 8000 5000 6300 8000) 191
+    ∷ figure "least thickness, fy 420: 6,300 by 5,000, S 80,001, no outer line, α 7,999" (leastThickness (beside Everywhere 1 7999 420 5000 6300 80001)) 147
+    ∷ figure "least thickness, 1,000 by 1,000, S 80,001, edge α 7,999" (edge 7999 1000 1000 80001) 99
+    ∷ figure "least thickness, 1,000 by 1,000, S 80,001, edge α 8,000" (edge 8000 1000 1000 80001) 90
+    ∷ figure "least thickness, 1,000 by 1,000, S 80,000, edge α 7,999" (edge 7999 1000 1000 80000) 138
+    ∷ figure "least thickness, 1,000 by 1,000, S 80,000, edge α 8,000" (edge 8000 1000 1000 80000) 125
+    ∷ figure "least thickness, fy 520: 11,800 by 11,800, S 8,001, edge α 7,999" (leastThickness (beside Everywhere 0 7999 520 11800 11800 8001)) 423
+    ∷ figure "least thickness, fy 280: 6,300, edge beams only, α 7,999" (edgeOnly 7999 280) 191
+    ∷ figure "least thickness, fy 280: 6,300, edge beams only, α 8,000" (edgeOnly 8000 280) 175
+    ∷ figure "least thickness, fy 420: 6,300, edge beams only, α 7,999" (edgeOnly 7999 420) 210
+    ∷ figure "least thickness, fy 420: 6,300, edge beams only, α 8,000" (edgeOnly 8000 420) 191
+    ∷ figure "least thickness, fy 520: 6,300, edge beams only, α 7,999" (edgeOnly 7999 520) 225
+    ∷ figure "least thickness, fy 520: 6,300, edge beams only, α 8,000" (edgeOnly 8000 520) 204
     ∷ figure "As of M 2,195,000, b 1,000, t 150, d 124, fc 30, fy 420" (area 2195000) 484
     ∷ figure "As of M 0" (area 0) 270
     ∷ []

@@ -8,18 +8,19 @@
 --     pair-in, pair-is             the two beside a bay, and their sum
 --     beside, at-panel             α of all lines has that of two, and of a panel's four
 --     clearing-x, clearing-y       a panel's two clear spans
+--     weak-is                      that a panel has a weak edge is asked of an outer one alone
 --     view-is                      what is put together of all that is a panel's view
 --     asked, least-is, enough-is   which is in the rules' range, and of which its least thickness, and whether t is enough, are worked out
 --     thick-in                     t is in range too
 -- Assumes nothing.
 use Prim.Native.Nat.{ℕ, _+_, _-_, _≤_, _<_, min, max}
-use mathlib.Core.Bool.{Bool, cond, _||_}
+use mathlib.Core.Bool.{Bool, true, false, _&&_, _||_}
 use mathlib.Core.List.{List, [], _∷_}
 use mathlib.Core.Logic.{_⊎_, inl, inr}
 use mathlib.Core.Path.{_≡_, refl, sym, _∙_}
 use native.Mathlib.Decide.{decLt}
 use native.Mathlib.Omega.{arith}
-use lib.Dec.{leb}
+use lib.Dec.{leb, ltb}
 use lib.ListN.{getD, length, set}
 use lib.Seq.{getD-set-same, getD-set-other, ext-getD}
 use Rattle.plan.specs.declared.ways.Way.{Way}
@@ -32,13 +33,12 @@ use Rattle.floor.specs.Fair.{Fair}
 use Rattle.floor.proofs.Fair.{fair}
 use Rattle.thickness.specs.declared.Panel.{Panel}
 use Rattle.thickness.specs.declared.PanelPlace.{PanelPlace}
-use Rattle.thickness.specs.declared.PanelPlace.the-variants.{Inner}
 use Rattle.thickness.specs.Asked.{PanelSizes, SlabMost}
 use Rattle.thickness.specs.LeastThickness.{leastThickness}
 use Rattle.lines.specs.declared.slab.Slab.{Slab}
-use Rattle.lines.specs.Lines.{lineAlpha, pairAlpha, clearSpan, outerPanel, edgePlace, panelPlace, isEverywhere, panelView, panelThickness}
+use Rattle.lines.specs.Lines.{outer, lineAlpha, pairAlpha, clearSpan, outerPanel, weakEdge, placeOf, panelPlace, isEverywhere, panelView, panelThickness}
 use Rattle.lines.specs.Slabs.{slabOf}
-use Rattle.lines.specs.Rows.{Alphas, ZeroElse, Spans, AllSpans, AllAlphas, AlphaRows, PanelAlphaRows, TwoRows, rowOf, pairAt}
+use Rattle.lines.specs.Rows.{Alphas, ZeroElse, Spans, AllSpans, AllAlphas, AlphaRows, PanelAlphaRows, TwoRows, rowOf, pairAt, weakAt}
 use Rattle.lines.specs.Asked.{TwoAlphas, Clearing, Ready, PanelAtHand, AtPanel}
 use Rattle.lines.proofs.Floors.{alpha-bound, panel-in}
 
@@ -158,6 +158,15 @@ module _ {f : List ℕ} {a b : List (List ℕ)} (p : TwoRows a) (q : TwoRows b) 
       same X = one-row (p .thirteen X) (q .thirteen X) (v .known .x, v .rest-x) (w .known .x, w .rest-x)
       same Y = one-row (p .thirteen Y) (q .thirteen Y) (v .known .y, v .rest-y) (w .known .y, w .rest-y)
 
+-- four tests, each of which another holds back: where all of those fail, so do they
+outer-alone : (o p q r v w x y : Bool)
+    → (((o || p) || (q || r)) && (((o && v) || (p && w)) || ((q && x) || (r && y)))) ≡ (((o && v) || (p && w)) || ((q && x) || (r && y)))
+outer-alone true p q r v w x y = refl
+outer-alone false true q r v w x y = refl
+outer-alone false false true r v w x y = refl
+outer-alone false false false true v w x y = refl
+outer-alone false false false false v w x y = refl
+
 module _ (f : List ℕ) {slab : Slab} {s a : List (List ℕ)} (i j : ℕ) (p : AtPanel f slab s a i j) where
   abbrev at : PanelAtHand f slab s i j
   at = p .panel
@@ -185,26 +194,49 @@ module _ (f : List ℕ) {slab : Slab} {s a : List (List ℕ)} (i j : ℕ) (p : A
   unfolding slabOf
   shared = rw (at .surveyed .shared) (refl, refl, refl, refl, refl, refl)
 
-  pub view-is : {everywhere outside : Bool} {place : PanelPlace} {fy x y sn ln v w : ℕ}
-      → x ≡ getD (rowOf s X) i 0 - slab .cx → y ≡ getD (rowOf s Y) j 0 - slab .cy → v ≡ pairAt (rowOf a X) j → w ≡ pairAt (rowOf a Y) i
-      → everywhere ≡ isEverywhere (slab .layout)
-      → outside ≡ ((outerLine (slab .bays .y) j || outerLine (slab .bays .y) (j + 1)) || (outerLine (slab .bays .x) i || outerLine (slab .bays .x) (i + 1)))
-      → place ≡ cond outside (edgePlace (slab .layout)) Inner → fy ≡ slab .fy → sn ≡ min x y → ln ≡ max x y
-      → _≡_ {A = Panel} (record { everywhere = everywhere; place = place; fy = fy; sn = sn; ln = ln; s = v + w }) (panelView f i j)
-  unfolding panelView panelPlace outerPanel clearSpan
-  view-is ex ey ea eb ev eo ep ef es el =
-      cc (
-        shared .0,
-        shared .1,
-        shared .2,
-        shared .3,
-        shared .4,
-        shared .5,
-        at .surveyed .spans X .is i (clearing-x .index),
-        at .surveyed .spans Y .is j (clearing-y .index),
-        pair-is (p .alphas .x),
-        pair-is (p .alphas .y),
-      )
+  -- an outer panel, and one that has a weak edge, as nx, ny and the α at hand tell it
+  module _ {outside weak : Bool}
+      (eo : outside ≡ ((outerLine (slab .bays .y) j || outerLine (slab .bays .y) (j + 1)) || (outerLine (slab .bays .x) i || outerLine (slab .bays .x) (i + 1))))
+      (ew : weak ≡ (outside && (weakAt (slab .bays .y) (rowOf a X) j || weakAt (slab .bays .x) (rowOf a Y) i))) where
+    abbrev below8000 : Way → ℕ → Bool
+    below8000 d l = ltb (lineAlpha f d l) 8000
+
+    weak-is : weak ≡ weakEdge f i j
+    unfolding weakEdge
+    weak-is =
+        let x = p .alphas .x in
+        let y = p .alphas .y in
+        rw (
+          ew,
+          eo,
+          shared .0,
+          shared .1,
+          x .is j (omega arith) (omega arith),
+          x .is (j + 1) (omega arith) (omega arith),
+          y .is i (omega arith) (omega arith),
+          y .is (i + 1) (omega arith) (omega arith),
+        )
+        (outer-alone (outer f X j) (outer f X (j + 1)) (outer f Y i) (outer f Y (i + 1)) (below8000 X j) (below8000 X (j + 1)) (below8000 Y i) (below8000 Y (i + 1)))
+
+    pub view-is : {everywhere : Bool} {place : PanelPlace} {fy x y sn ln v w : ℕ}
+        → x ≡ getD (rowOf s X) i 0 - slab .cx → y ≡ getD (rowOf s Y) j 0 - slab .cy → v ≡ pairAt (rowOf a X) j → w ≡ pairAt (rowOf a Y) i
+        → everywhere ≡ isEverywhere (slab .layout) → place ≡ placeOf outside weak → fy ≡ slab .fy → sn ≡ min x y → ln ≡ max x y
+        → _≡_ {A = Panel} (record { everywhere = everywhere; place = place; fy = fy; sn = sn; ln = ln; s = v + w; weak = weak }) (panelView f i j)
+    unfolding panelView panelPlace outerPanel clearSpan
+    view-is ex ey ea eb ev ep ef es el =
+        cc (
+          shared .0,
+          shared .1,
+          shared .2,
+          shared .3,
+          shared .4,
+          shared .5,
+          at .surveyed .spans X .is i (clearing-x .index),
+          at .surveyed .spans Y .is j (clearing-y .index),
+          pair-is (p .alphas .x),
+          pair-is (p .alphas .y),
+          weak-is,
+        )
 
   module _ {view : Panel} (is : view ≡ panelView f i j) where
     pub asked : PanelSizes (view .fy) (view .sn) (view .ln)

@@ -1,6 +1,6 @@
 -- What the rules ask, at each line and panel of an accepted floor: floor's `fair`, in the records that the formulas ask.
 --     beside-of, line-of, frame-of     the spans beside line l, with the column across, and W
---     beam-of, alpha-bound             the beam on it, and α, of which its bound alone is used
+--     beam-of, alpha-bound, no-beam    the beam on it, and α, of which its bound alone is used, and that it is 0 without a beam
 --     clear-of, grade-most, panel-in   a clear span, the grade, and a panel's two clear spans
 -- A line is the first, the last or one inside; the span past an outer line is not there and reads 0.
 -- Assumes nothing.
@@ -26,7 +26,7 @@ use Rattle.layouts.proofs.Beams.{says-outer}
 use Rattle.stiffness.specs.Asked.{Span, Column, OneSpan, Beside, Line, Frame, Beam}
 use Rattle.thickness.specs.Asked.{PanelSizes}
 use Rattle.stiffness.proofs.Widths.{frame-in}
-use Rattle.stiffness.proofs.Stiffness.{alpha-most}
+use Rattle.stiffness.proofs.Stiffness.{alpha-most, alpha-none}
 use Rattle.thickness.proofs.Thinnest.{panel-of}
 use Rattle.lines.specs.Lines.{outer, below, above, lineWidth, lineAlpha, clearSpan, panelView}
 use Rattle.lines.specs.Asked.{OnLine, InBay}
@@ -113,6 +113,11 @@ module _ (f : List ℕ) (d : Way) (l : ℕ) (at : OnLine f d l) where
   pub alpha-bound : lineAlpha f d l ≤ 200000000
   unfolding lineAlpha
   alpha-bound = alpha-most (outer f d l) (beam-of f (at .accepted) d l) frame-of
+
+-- without a beam α is 0
+pub no-beam : (f : List ℕ) (d : Way) (l : ℕ) → beamWidth f d l ≡ 0 → lineAlpha f d l ≡ 0
+unfolding lineAlpha
+no-beam f d l none = rw none (alpha-none (outer f d l) (beamDepth f d l) (lineWidth f d l) (thickness f))
 
 module _ (f : List ℕ) (i j : ℕ) (e : refusal f ≡ 0) (hi : i < bays f X) (hj : j < bays f Y) where
   pub panel-in : PanelSizes (panelView f i j .fy) (panelView f i j .sn) (panelView f i j .ln)

@@ -1,9 +1,9 @@
--- "Line stiffness" and "Least thickness", of a floor: the widths and α of its lines, and the least thickness of its panels.
+-- "Line stiffness" and "Least thickness", of a floor: the widths and α of its lines, and the least thickness of its panels, with 02, Three.
 -- Assumes nothing.
 use Prim.Native.Nat.{ℕ, _+_, _-_, min, max}
-use mathlib.Core.Bool.{Bool, true, false, cond, _||_}
+use mathlib.Core.Bool.{Bool, true, false, cond, _&&_, _||_}
 use mathlib.Core.List.{List}
-use lib.Dec.{eqb}
+use lib.Dec.{eqb, ltb}
 use Rattle.plan.specs.declared.ways.Way.{Way}
 use Rattle.plan.specs.declared.ways.Way.the-variants.{X, Y}
 use Rattle.plan.specs.Ways.{across}
@@ -65,14 +65,29 @@ touches f d k = outer f d k || outer f d (k + 1)
 unfoldable pub outerPanel : List ℕ → ℕ → ℕ → Bool
 outerPanel f i j = touches f X j || touches f Y i
 
--- "outer panel without edge beams, outer with, inner": the outer lines have beams in each layout but the bare one
-abbrev pub edgePlace : Layout → PanelPlace
-edgePlace Everywhere = Edged
-edgePlace OuterOnly = Edged
-edgePlace Bare = Rattle.thickness.specs.declared.PanelPlace.the-variants.Bare
+-- 02, Three: "an outer line with α below 8000", of lines 0 to last; "for columns, walls and masonry edges alike", so that the side's code is not asked
+abbrev pub weakLine : ℕ → ℕ → ℕ → Bool
+weakLine last α l = outerLine last l && ltb α 8000
+
+-- one of lines k and k + 1 is such a line
+abbrev pub weakPair : ℕ → (ℕ → ℕ) → ℕ → Bool
+weakPair last α k = weakLine last (α k) k || weakLine last (α (k + 1)) (k + 1)
+
+-- of the two along d beside bay k across d
+abbrev pub weakBeside : List ℕ → Way → ℕ → Bool
+weakBeside f d = weakPair (lastLine f d) (lineAlpha f d)
+
+-- of the panel's four
+unfoldable pub weakEdge : List ℕ → ℕ → ℕ → Bool
+weakEdge f i j = weakBeside f X j || weakBeside f Y i
+
+-- "outer panel without edge beams, outer with, inner"; 02, Three: "an outer panel with such a beam counts as having none". A line without a beam has α 0,
+-- so that the same test tells both of the first (`Meaning: PlaceIs` names them apart).
+abbrev pub placeOf : Bool → Bool → PanelPlace
+placeOf outside weak = cond outside (cond weak Rattle.thickness.specs.declared.PanelPlace.the-variants.Bare Edged) Inner
 
 unfoldable pub panelPlace : List ℕ → ℕ → ℕ → PanelPlace
-panelPlace f i j = cond (outerPanel f i j) (edgePlace (layoutOf f)) Inner
+panelPlace f i j = placeOf (outerPanel f i j) (weakEdge f i j)
 
 -- "beams everywhere"
 abbrev pub isEverywhere : Layout → Bool
@@ -90,6 +105,7 @@ panelView f i j =
       sn = shorterClear f i j;
       ln = longerClear f i j;
       s = panelAlpha f i j;
+      weak = weakEdge f i j;
     }
 
 -- the least that it comes to; what is asked of it is said in `Meaning: PanelEnough`

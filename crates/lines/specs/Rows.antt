@@ -1,6 +1,7 @@
 -- What is read or worked out once for all panels and spans of a floor: a row of numbers for each direction.
 -- Assumes nothing.
 use Prim.Native.Nat.{ℕ, _+_, _≤_, _<_}
+use mathlib.Core.Bool.{Bool}
 use mathlib.Core.List.{List, []}
 use mathlib.Core.Logic.{_⊎_}
 use mathlib.Core.Path.{_≡_}
@@ -9,7 +10,7 @@ use Rattle.plan.specs.declared.ways.Way.{Way}
 use Rattle.plan.specs.declared.ways.Way.the-variants.{X, Y}
 use Rattle.plan.specs.Ways.{pick}
 use Rattle.plan.specs.Plan.{span, lastLine}
-use Rattle.lines.specs.Lines.{lineAlpha}
+use Rattle.lines.specs.Lines.{lineAlpha, weakPair}
 
 -- s has every span along d, and zeros past the last
 pub record Spans (f : List ℕ) (d : Way) (s : List ℕ) : Type 0 where
@@ -57,3 +58,7 @@ pub record PanelAlphaRows (f : List ℕ) (i j : ℕ) (a : List (List ℕ)) : Typ
 -- the sum of two that stand one after the other
 abbrev pub pairAt : List ℕ → ℕ → ℕ
 pairAt a k = getD a k 0 + getD a (k + 1) 0
+
+-- 02, Three: "an outer line with α below 8000" is one of the two beside bay k, of lines 0 to last
+abbrev pub weakAt : ℕ → List ℕ → ℕ → Bool
+weakAt last a = weakPair last (λ l. getD a l 0)

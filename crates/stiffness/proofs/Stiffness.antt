@@ -1,4 +1,5 @@
--- The inertia of a beam with its flange is bounded by a multiple of t³, and so α is bounded: all that a user of α may know of it, besides its name.
+-- The inertia of a beam with its flange is bounded by a multiple of t³, and so α is bounded: all that a user of α may know of it, besides its name
+-- and that it is 0 without a beam (`alpha-none`).
 --     apart-most      the largest number on the way, reached at b 1000, h 1500, t 375, inside: it fits 64 bits
 --     flanged-most    the flange adds no more than 8t, so that its share grows with t² and not with t³
 -- Assumes nothing.
@@ -118,3 +119,7 @@ pub alpha-most : (outer : Bool) {b h W t : ℕ} → Beam b h t → Frame W → a
 unfolding alpha
 alpha-most outer {b} {t = t} beam frame =
     none-most b (λ there. div-le-of-le-mul _ (omega (arith, flanged-most (flanged-of outer beam there), frame .least ⊗ # (cube t))))
+
+pub alpha-none : (outer : Bool) (h W t : ℕ) → alpha outer 0 h W t ≡ 0
+unfolding alpha
+alpha-none outer h W t = refl

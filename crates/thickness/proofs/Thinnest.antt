@@ -1,9 +1,12 @@
--- The thickness of specs/ is the least that 01 asks, between 90 and 422, and no other number is it.
--- Each of the three rules asks n ≤ t·d and t ≥ m, so its least t is n/d rounded up; 422 meets each, so none is above it.
+-- The thickness of specs/ is the least that 01 and 02, Three, ask, between 90 and 423, and the only such number.
+-- Each of the three rules of 01 asks n ≤ t·d and t ≥ m, so its least t is n/d rounded up; 422 meets each, so none is above it, and 384 meets the two that
+-- can be raised.
+-- Whatever P is, its least number raised by ten percent is the least that `Raised P` allows (`least-raised`), so that the three rules are not looked at
+-- again.
 -- And what is enough is enough for every t above it (`enough-on`), so that t is below the least exactly where it is not enough.
 -- Assumes nothing.
-use Prim.Native.Nat.{ℕ, _+_, _*_, _-_, _≤_, _<_, min, max}
-use mathlib.Core.Bool.{Bool, true, false, cond, _&&_}
+use Prim.Native.Nat.{ℕ, _+_, _*_, _-_, _/_, _≤_, _<_, min, max}
+use mathlib.Core.Bool.{Bool, true, false, cond, _&&_, false≢true}
 use mathlib.Core.List.{[]}
 use mathlib.Core.Path.{_≡_, refl}
 use native.Mathlib.Omega.{arith}
@@ -13,12 +16,12 @@ use Rattle.numbers.specs.Least.{Least, least-one}
 use Rattle.numbers.specs.Tests.{until, all}
 use Rattle.numbers.proofs.Bounded.{_⊕_, _⊗_, #}
 use Rattle.numbers.proofs.Rounded.{least-up, least-up-scaled}
-use Rattle.numbers.proofs.Tests.{says-and, says-le, at}
+use Rattle.numbers.proofs.Tests.{says-and, says-as, says-le, says-one, at}
 use Rattle.thickness.specs.declared.Panel.{Panel}
 use Rattle.thickness.specs.declared.PanelPlace.{PanelPlace}
 use Rattle.thickness.specs.declared.PanelPlace.the-variants.{Bare, Edged, Inner}
-use Rattle.thickness.specs.Asked.{PanelSizes}
-use Rattle.thickness.specs.LeastThickness.{divisors, gradeRow, panelColumn, divisor, byStiffness, Stiff, Middling, Tabled, Enough, stiff, middling, tabled, leastThickness, Thinnest}
+use Rattle.thickness.specs.Asked.{Answered, PanelSizes}
+use Rattle.thickness.specs.LeastThickness.{divisors, gradeRow, panelColumn, divisor, byStiffness, Stiff, Middling, Tabled, EnoughBy01, raises, Raised, Enough, stiff, middling, tabled, answerOf01, raised, leastThickness, Thinnest}
 
 -- ---- the table
 
@@ -55,31 +58,34 @@ shorter-most p = omega arith
 
 -- ---- the three rules
 
--- p is the least number with P, and in the range of all thicknesses
-abbrev Found : (ℕ → Type 0) → ℕ → Type 0
-Found P p = Least P p × (90 ≤ p) × (p ≤ 422)
+-- p is the least number with P, and from 90 to `most`
+abbrev Found : ℕ → (ℕ → Type 0) → ℕ → Type 0
+Found most P p = Least P p × (90 ≤ p) × (p ≤ most)
 
-found : {P : ℕ → Type 0} {p : ℕ} → Least P p → 90 ≤ p → P 422 → Found P p
-found l from enough = (l, from, l .first 422 enough)
+found : {P : ℕ → Type 0} {p : ℕ} (most : ℕ) → Least P p → 90 ≤ p → P most → Found most P p
+found most l from enough = (l, from, l .first most enough)
+
+wider : {P : ℕ → Type 0} {p : ℕ} → Found 384 P p → Found 422 P p
+wider l = (l .0, l .1, omega (arith, l .2))
 
 module _ (fy sn ln S : ℕ) (p : PanelSizes fy sn ln) where
-  least-stiff : Found (Stiff fy sn ln) (stiff fy sn ln)
+  least-stiff : Found 384 (Stiff fy sn ln) (stiff fy sn ln)
   unfolding Stiff stiff
   least-stiff =
       let l = least-up-scaled 1400 (36 * sn + 9 * ln) (ln * sn * (1120 + fy)) 90 (omega arith) in
-      found l (l .holds .1) (omega (arith, p .most ⊗ # sn ⊗ (# 1120 ⊕ p .grade)), lit≤ tt)
+      found 384 l (l .holds .1) (omega (arith, p .most ⊗ # sn ⊗ (# 1120 ⊕ p .grade)), lit≤ tt)
 
-  least-middling : Found (Middling fy sn ln S) (middling fy sn ln S)
+  least-middling : Found 384 (Middling fy sn ln S) (middling fy sn ln S)
   unfolding Middling middling
   least-middling =
       let l = least-up-scaled 1400 (1440000 * sn + 5 * ln * (S - 8000)) (40000 * ln * sn * (1120 + fy)) 125 (omega arith) in
-      found l (omega (arith, l .holds .1)) (omega (arith, # 40000 ⊗ p .most ⊗ # sn ⊗ (# 1120 ⊕ p .grade)), lit≤ tt)
+      found 384 l (omega (arith, l .holds .1)) (omega (arith, # 40000 ⊗ p .most ⊗ # sn ⊗ (# 1120 ⊕ p .grade)), lit≤ tt)
 
-  least-tabled : (n : ℕ) → 28 ≤ n → Found (Tabled n ln) (tabled n ln)
+  least-tabled : (n : ℕ) → 28 ≤ n → Found 422 (Tabled n ln) (tabled n ln)
   unfolding Tabled tabled
   least-tabled n h =
       let l = least-up ln 125 {d = n} (omega arith) in
-      found l (omega (arith, l .holds .1)) (omega arith, lit≤ tt)
+      found 422 l (omega (arith, l .holds .1)) (omega arith, lit≤ tt)
 
 -- ---- the case that is taken
 
@@ -92,11 +98,68 @@ by-case G everywhere S {P} {Q} {R} {p} {q} {r} x y z = told (everywhere && ltb 8
     told false true = y
     told false false = z
 
-pub least-thickness : (p : Panel) → PanelSizes (p .fy) (p .sn) (p .ln) → Found (Enough p) (leastThickness p)
-unfolding Enough leastThickness
-least-thickness p h =
-    by-case Found (p .everywhere) (p .s) (least-stiff (p .fy) (p .sn) (p .ln) (p .s) h) (least-middling (p .fy) (p .sn) (p .ln) (p .s) h)
+least-by-01 : (p : Panel) → PanelSizes (p .fy) (p .sn) (p .ln) → Found 422 (EnoughBy01 p) (answerOf01 p)
+unfolding EnoughBy01 answerOf01
+least-by-01 p h =
+    by-case (Found 422) (p .everywhere) (p .s) (wider (least-stiff (p .fy) (p .sn) (p .ln) (p .s) h)) (wider (least-middling (p .fy) (p .sn) (p .ln) (p .s) h))
     (least-tabled (p .fy) (p .sn) (p .ln) (p .s) h (divisor (p .fy) (p .place)) (divisor-in (p .fy) (p .place) .0))
+
+-- an answer of 01 is one of which ten percent more can be worked out
+pub answered : (p : Panel) {r : ℕ} → PanelSizes (p .fy) (p .sn) (p .ln) → r ≡ answerOf01 p → Answered r
+answered p h e = record { most = rw e (least-by-01 p h .2) }
+
+-- ---- ten percent more, whatever it is of
+
+least-raised : {P : ℕ → Type 0} {a : ℕ} → Least P a → Least (Raised P) (raised a)
+unfolding raised
+least-raised {a = a} l =
+    record {
+      holds = record { answer = a; of01 = l; more = omega arith };
+      first = λ t r. omega (arith, least-one (r .of01) l, r .more);
+    }
+
+-- the rules that are raised have lower answers than the table
+unraised : (p : Panel) → PanelSizes (p .fy) (p .sn) (p .ln) → raises p ≡ true → Found 384 (EnoughBy01 p) (answerOf01 p)
+unfolding EnoughBy01 answerOf01 raises
+unraised p h more =
+    told (p .everywhere && ltb 80000 (p .s)) (p .everywhere && ltb 8000 (p .s)) (right (p .weak) (p .everywhere && ltb 8000 (p .s)) more)
+  where
+    right : (a b : Bool) → (a && b) ≡ true → b ≡ true
+    right true b e = e
+    right false b e = absurd (false≢true e)
+
+    told : (a b : Bool) → b ≡ true
+        → Found 384
+        (cond a (Stiff (p .fy) (p .sn) (p .ln)) (cond b (Middling (p .fy) (p .sn) (p .ln) (p .s)) (Tabled (divisor (p .fy) (p .place)) (p .ln))))
+        (cond a (stiff (p .fy) (p .sn) (p .ln)) (cond b (middling (p .fy) (p .sn) (p .ln) (p .s)) (tabled (divisor (p .fy) (p .place)) (p .ln))))
+    told true b e = least-stiff (p .fy) (p .sn) (p .ln) (p .s) h
+    told false true e = least-middling (p .fy) (p .sn) (p .ln) (p .s) h
+    told false false e = absurd (false≢true e)
+
+found-raised : (b : Bool) {P : ℕ → Type 0} {a : ℕ} → (b ≡ true → Found 384 P a) → Found 422 P a → Found 423 (cond b (Raised P) P) (cond b (raised a) a)
+unfolding raised
+found-raised true low l = (least-raised (l .0), omega (arith, l .1), omega (arith, low refl .2))
+found-raised false low l = (l .0, l .1, omega (arith, l .2))
+
+-- t is that much or more exactly where 10t/11, rounded down, is the answer of 01 or more: a test with no division by a variable
+pub allowed : (b : Bool) (a t : ℕ) → leb (cond b (raised a) a) t ≡ leb a (cond b (10 * t / 11) t)
+unfolding raised
+allowed true a t =
+    says-one (says-le (raised a) t) (says-as (λ h. omega (arith, h)) (λ h. omega (arith, h)) (says-le a (10 * t / 11)))
+allowed false a t = refl
+
+-- `Raised` is the same of statements that hold of the same numbers
+pub raised-as : {P Q : ℕ → Type 0} {t : ℕ} → ((u : ℕ) → P u → Q u) → ((u : ℕ) → Q u → P u) → Raised P t → Raised Q t
+raised-as to from r =
+    record {
+      answer = r .answer;
+      of01 = record { holds = to _ (r .of01 .holds); first = λ u h. r .of01 .first u (from u h) };
+      more = r .more;
+    }
+
+pub least-thickness : (p : Panel) → PanelSizes (p .fy) (p .sn) (p .ln) → Found 423 (Enough p) (leastThickness p)
+unfolding Enough leastThickness
+least-thickness p h = found-raised (raises p) (unraised p h) (least-by-01 p h)
 
 -- ---- a thicker slab is enough too
 
@@ -116,11 +179,19 @@ rising-tabled : (n ln : ℕ) → Rising (Tabled n ln)
 unfolding Tabled
 rising-tabled n ln t u h p = (omega (arith, p .0, h ⊗ # n), omega (arith, h, p .1))
 
-pub enough-on : (p : Panel) → Rising (Enough p)
-unfolding Enough
-enough-on p =
+rising-raised : (b : Bool) {P : ℕ → Type 0} → Rising P → Rising (cond b (Raised P) P)
+rising-raised true on t u h r = record { answer = r .answer; of01 = r .of01; more = omega (arith, h, r .more) }
+rising-raised false on t u h r = on t u h r
+
+rising-by-01 : (p : Panel) → Rising (EnoughBy01 p)
+unfolding EnoughBy01
+rising-by-01 p =
     by-case (λ P _. Rising P) (p .everywhere) (p .s) {p = 0} {q = 0} {r = 0} (rising-stiff (p .fy) (p .sn) (p .ln))
     (rising-middling (p .fy) (p .sn) (p .ln) (p .s)) (rising-tabled (divisor (p .fy) (p .place)) (p .ln))
+
+pub enough-on : (p : Panel) → Rising (Enough p)
+unfolding Enough
+enough-on p = rising-raised (raises p) (rising-by-01 p)
 
 -- the definition's number is the answer, and the answer is one
 pub thinnest : {p : Panel} {r : ℕ} → PanelSizes (p .fy) (p .sn) (p .ln) → r ≡ leastThickness p → Thinnest p r

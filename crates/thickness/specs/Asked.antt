@@ -22,6 +22,10 @@ pub record ByTable (divisor ln : ℕ) : Type 0 where
   pub most : divisor ≤ 36
   pub longer : ln ≤ 11800
 
+-- the answer of 01, of which ten percent more is worked out
+pub record Answered (t : ℕ) : Type 0 where
+  pub most : t ≤ 422
+
 -- a slab's thickness
 pub record SlabMost (t : ℕ) : Type 0 where
   pub most : t ≤ 500

@@ -1,5 +1,6 @@
--- "Least thickness": what is asked of t, and the number that it comes to.
--- sn and ln are the panel's shorter and longer clear spans, S the sum of its four line α.
+-- "Least thickness" of 01 and, on top of it, 02, Three: what is asked of t, and the number that it comes to.
+-- sn and ln are the panel's shorter and longer clear spans, S the sum of its four line α; `weak` says that one of its lines is an outer one with α
+-- below 8000. That such a panel's place is `Bare` is said where the place is worked out.
 -- Assumes nothing.
 use Prim.Native.Nat.{ℕ, _+_, _-_, _*_, _≤_, _<_, max}
 use mathlib.Core.Bool.{Bool, cond, _&&_}
@@ -49,10 +50,24 @@ Middling fy sn ln S t =
 unfoldable pub Tabled : ℕ → ℕ → ℕ → Type 0
 Tabled n ln t = (ln ≤ t * n) × (125 ≤ t)
 
-unfoldable pub Enough : Panel → ℕ → Type 0
-Enough p =
+-- the rule of 01 for the panel
+unfoldable pub EnoughBy01 : Panel → ℕ → Type 0
+EnoughBy01 p =
     byStiffness (p .everywhere) (p .s) (Stiff (p .fy) (p .sn) (p .ln)) (Middling (p .fy) (p .sn) (p .ln) (p .s))
     (Tabled (divisor (p .fy) (p .place)) (p .ln))
+
+-- 02, Three: "With beams everywhere and S above 8000, a panel having an outer line with α below 8000"
+unfoldable pub raises : Panel → Bool
+raises p = p .weak && (p .everywhere && ltb 8000 (p .s))
+
+-- "needs the least whole t with 10t ≥ 11 times the answer of 01", which is the least number with P
+pub record Raised (P : ℕ → Type 0) (t : ℕ) : Type 0 where
+  pub answer : ℕ
+  pub of01 : Least P answer
+  pub more : 11 * answer ≤ 10 * t
+
+unfoldable pub Enough : Panel → ℕ → Type 0
+Enough p = cond (raises p) (Raised (EnoughBy01 p)) (EnoughBy01 p)
 
 -- ---- the number that it comes to
 
@@ -66,10 +81,17 @@ middling fy sn ln S =
 unfoldable pub tabled : ℕ → ℕ → ℕ
 tabled n ln = max 125 (up ln n)
 
-unfoldable pub leastThickness : Panel → ℕ
-leastThickness p =
+unfoldable pub answerOf01 : Panel → ℕ
+answerOf01 p =
     byStiffness (p .everywhere) (p .s) (stiff (p .fy) (p .sn) (p .ln)) (middling (p .fy) (p .sn) (p .ln) (p .s))
     (tabled (divisor (p .fy) (p .place)) (p .ln))
+
+-- 02, Three: ten percent more, rounded up
+unfoldable pub raised : ℕ → ℕ
+raised answer = up (11 * answer) 10
+
+unfoldable pub leastThickness : Panel → ℕ
+leastThickness p = cond (raises p) (raised (answerOf01 p)) (answerOf01 p)
 
 -- the numbers of a rule: t is the least that it allows, and none is so large that its quotient or a slab's multiple would not fit
 pub record Asks (t : ℕ) (rule : Bound) : Type 0 where
@@ -83,4 +105,4 @@ pub record Thinnest (p : Panel) (r : ℕ) : Type 0 where
   pub least : Least (Enough p) r
   pub is : r ≡ leastThickness p
   pub from : 90 ≤ r
-  pub most : r ≤ 422
+  pub most : r ≤ 423

@@ -1,12 +1,14 @@
 // Least thickness of a panel.
+use numbers::both;
 use numbers::larger;
 use numbers::rounded_up;
 ghost use mathlib.Core.Path.{_≡_};
-ghost use Prim.Native.Nat.{_≤_, _<_, max};
+ghost use mathlib.Core.Bool.{cond};
+ghost use Prim.Native.Nat.{_*_, _/_, _≤_, _<_, max};
 ghost use Rattle.numbers.specs.Rounding.{up, Quotient};
 ghost use lib.Dec.{leb};
-ghost use Rattle.thickness.specs.Asked.{ByTable, Middle, Multiple, PanelSizes, SlabMost};
-ghost use Rattle.thickness.specs.LeastThickness.{gradeRow, panelColumn, divisor, stiff, middling, tabled, leastThickness, Asks, Thinnest};
+ghost use Rattle.thickness.specs.Asked.{Answered, ByTable, Middle, Multiple, PanelSizes, SlabMost};
+ghost use Rattle.thickness.specs.LeastThickness.{gradeRow, panelColumn, divisor, stiff, middling, tabled, answerOf01, raises, raised, leastThickness, Asks, Thinnest};
 
 // Outer panel without edge beams, outer with, inner.
 pub enum PanelPlace {
@@ -15,7 +17,8 @@ pub enum PanelPlace {
     Inner,
 }
 
-// What the least thickness of a panel is worked out from; sn and ln are its shorter and longer clear spans.
+// What the least thickness of a panel is worked out from; sn and ln are its shorter and longer clear spans, and `weak` says that it has an
+// outer line with α below 8000 (02, Three).
 pub struct Panel {
     pub everywhere: bool,
     pub place: PanelPlace,
@@ -23,6 +26,7 @@ pub struct Panel {
     pub sn: u64,
     pub ln: u64,
     pub s: u64,
+    pub weak: bool,
 }
 
 // n by grade 280, 420, 520, and by place.
@@ -98,7 +102,7 @@ fn tabled(divisor: u64, ln: u64) -> Bound
 
 fn rule_of(p: Panel) -> Bound
     requires { ⌜ PanelSizes (p .fy) (p .sn) (p .ln) ⌝ }
-    ensures { λ r. ⌜ Asks (leastThickness p) r ⌝ }
+    ensures { λ r. ⌜ Asks (answerOf01 p) r ⌝ }
 {
     if p.everywhere {
         if 80000 < p.s {
@@ -128,13 +132,47 @@ fn reaches(n: u64, d: u64, m: u64, t: u64) -> bool
     m <= t && n <= t * d
 }
 
+// Whether the panel needs ten percent more than the answer of 01.
+fn raises(p: Panel) -> bool
+    ensures { λ r. ⌜ r ≡ raises p ⌝ }
+{
+    p.weak && both(p.everywhere, 8000 < p.s)
+}
+
+fn ten_percent_more(answer: u64) -> u64
+    requires { ⌜ Answered answer ⌝ }
+    ensures { λ r. ⌜ r ≡ up (11 * answer) 10 ⌝ }
+{
+    rounded_up(11 * answer, 10)
+}
+
+// Where it is needed.
+fn raise(needed: bool, answer: u64) -> u64
+    requires { ⌜ Answered answer ⌝ }
+    ensures { λ r. ⌜ r ≡ cond needed (raised answer) answer ⌝ }
+{
+    if needed {
+        ten_percent_more(answer)
+    } else {
+        answer
+    }
+}
+
+// The largest answer of 01 that a slab of t allows.
+fn allows(needed: bool, t: u64) -> u64
+    requires { ⌜ SlabMost t ⌝ }
+    ensures { λ r. ⌜ (r ≡ cond needed (10 * t / 11) t) × (r ≤ 500) ⌝ }
+{
+    if needed { 10 * t / 11 } else { t }
+}
+
 // The least whole t in mm.
 pub fn least_thickness(p: Panel) -> u64
     requires { ⌜ PanelSizes (p .fy) (p .sn) (p .ln) ⌝ }
     ensures { λ r. ⌜ Thinnest p r ⌝ }
 {
     let rule = rule_of(p);
-    reach(rule.n, rule.d, rule.least)
+    raise(raises(p), reach(rule.n, rule.d, rule.least))
 }
 
 // Whether a slab's t is enough, which is asked of every panel.
@@ -144,5 +182,5 @@ pub fn enough(p: Panel, t: u64) -> bool
     ensures { λ r. ⌜ r ≡ leb (leastThickness p) t ⌝ }
 {
     let rule = rule_of(p);
-    reaches(rule.n, rule.d, rule.least, t)
+    reaches(rule.n, rule.d, rule.least, allows(raises(p), t))
 }

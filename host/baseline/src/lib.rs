@@ -1,5 +1,5 @@
-//! The rules of 01, and request One of 02, in plain Rust written for speed: what the proved library is timed
-//! against.
+//! The rules of 01, and requests One to Three of 02, in plain Rust written for speed: what the proved library is
+//! timed against.
 //!
 //! The four calls are the library's. Each reads the floor's bytes once into fixed arrays and works from
 //! these; nothing is kept between calls. Every number of 01 fits 64 bits.

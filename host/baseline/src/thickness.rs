@@ -1,4 +1,4 @@
-//! "Least thickness"
+//! "Least thickness", with "Thin slabs at weak edges" (02, Three).
 
 use crate::floor::{Floor, MOST_BAYS, X, Y};
 use crate::judge::Layout;
@@ -38,9 +38,9 @@ fn asked(s: u64, x: u32, y: u32, fy: u32, n: u32) -> Asked {
     }
 }
 
-/// "n for outer panel without edge beams, outer with, inner"
-fn n(fy: u32, layout: Layout, outer: bool) -> u32 {
-    let bare = outer && layout == Layout::NoBeams;
+/// "n for outer panel without edge beams, outer with, inner": the last two are the same, and "an outer panel with
+/// such a beam counts as having none" (02, Three).
+fn n(fy: u32, bare: bool) -> u32 {
     match fy {
         280 if bare => 33,
         280 => 36,
@@ -51,51 +51,82 @@ fn n(fy: u32, layout: Layout, outer: bool) -> u32 {
     }
 }
 
+/// "an outer line with α below 8000" (02, Three), of the two lines beside a bay. A line without a beam has 0.
+fn weak_edge(alphas: [u64; 2], bay: usize, bays: usize) -> bool {
+    bay == 0 && alphas[0] < 8_000 || bay + 1 == bays && alphas[1] < 8_000
+}
+
 fn clear(floor: &Floor, way: usize, bay: usize) -> u32 {
     floor.spans(way)[bay] - floor.column[way]
 }
 
 /// Of one panel.
 pub fn least(floor: &Floor, layout: Layout, i: usize, j: usize) -> u32 {
-    let pair = |way: usize, line: usize| alpha(floor, way, line) + alpha(floor, way, line + 1);
+    let beside = |way: usize, line: usize| [alpha(floor, way, line), alpha(floor, way, line + 1)];
+    let (on_x, on_y) = (beside(X, j), beside(Y, i));
     let s = match layout {
-        Layout::Everywhere => pair(X, j) + pair(Y, i),
+        Layout::Everywhere => on_x[0] + on_x[1] + on_y[0] + on_y[1],
         _ => 0,
     };
-    let outer = i == 0 || j == 0 || i + 1 == floor.bays[X] || j + 1 == floor.bays[Y];
-    let n = n(floor.fy, layout, outer);
+    let [nx, ny] = floor.bays;
+    let weak = weak_edge(on_y, i, nx) || weak_edge(on_x, j, ny);
     let (x, y) = (clear(floor, X, i), clear(floor, Y, j));
-    let asked = asked(s, x, y, floor.fy, n);
-    asked.load.div_ceil(asked.factor).max(asked.least) as u32
+    let asked = asked(s, x, y, floor.fy, n(floor.fy, weak));
+    let answer = asked.load.div_ceil(asked.factor).max(asked.least);
+    match weak && s > 8_000 {
+        // "10t ≥ 11 times the answer of 01"
+        true => (11 * answer).div_ceil(10) as u32,
+        false => answer as u32,
+    }
 }
 
 /// 64: "t below some panel's least thickness."
 pub fn too_thin(floor: &Floor, layout: Layout, stiffness: &Stiffness) -> bool {
     match layout {
-        Layout::Everywhere => too_thin_with_beams(floor, stiffness),
-        _ => too_thin_without(floor, layout),
+        Layout::NoBeams => too_thin_without(floor),
+        _ => too_thin_with_beams(floor, layout, stiffness),
     }
 }
 
-/// Of each bay of a direction, its clear span and the sum of α of the two lines beside it.
-fn bays(floor: &Floor, way: usize, stiffness: &Stiffness) -> [(u32, u64); MOST_BAYS] {
-    let beside = &stiffness.0[1 - way];
-    let mut bays = [(0, 0); MOST_BAYS];
-    for (bay, &span) in floor.spans(way).iter().enumerate() {
-        let clear = span - floor.column[way];
-        bays[bay] = (clear, beside[bay] + beside[bay + 1]);
+/// A bay of a direction, with the two lines beside it.
+#[derive(Clone, Copy, Default)]
+struct Bay {
+    clear: u32,
+    /// With beams everywhere the sum of their α.
+    beside: u64,
+    weak: bool,
+}
+
+fn bays(floor: &Floor, layout: Layout, way: usize, stiffness: &Stiffness) -> [Bay; MOST_BAYS] {
+    let alphas = &stiffness.0[1 - way];
+    let mut bays = [Bay::default(); MOST_BAYS];
+    for (bay, place) in bays[..floor.bays[way]].iter_mut().enumerate() {
+        let beside = [alphas[bay], alphas[bay + 1]];
+        *place = Bay {
+            clear: clear(floor, way, bay),
+            beside: match layout {
+                Layout::Everywhere => beside[0] + beside[1],
+                _ => 0,
+            },
+            weak: weak_edge(beside, bay, floor.bays[way]),
+        };
     }
     bays
 }
 
-/// With edge beams n is the same for outer and inner panels.
-fn too_thin_with_beams(floor: &Floor, stiffness: &Stiffness) -> bool {
+/// "10t ≥ 11 times the answer of 01" where 10t/11, rounded down, is not below that answer.
+fn too_thin_with_beams(floor: &Floor, layout: Layout, stiffness: &Stiffness) -> bool {
     let t = u64::from(floor.t);
-    let n = n(floor.fy, Layout::Everywhere, false);
-    let columns = &bays(floor, X, stiffness)[..floor.bays[X]];
-    let rows = &bays(floor, Y, stiffness)[..floor.bays[Y]];
-    let thin = |&(x, beside_x): &(u32, u64), &(y, beside_y): &(u32, u64)| {
-        let asked = asked(beside_x + beside_y, x, y, floor.fy, n);
+    let at_weak_edges = 10 * t / 11;
+    let [with, without] = [false, true].map(|bare| n(floor.fy, bare));
+    let columns = &bays(floor, layout, X, stiffness)[..floor.bays[X]];
+    let rows = &bays(floor, layout, Y, stiffness)[..floor.bays[Y]];
+    let thin = |column: &Bay, row: &Bay| {
+        let s = column.beside + row.beside;
+        let weak = column.weak || row.weak;
+        let n = if weak { without } else { with };
+        let asked = asked(s, column.clear, row.clear, floor.fy, n);
+        let t = if weak && s > 8_000 { at_weak_edges } else { t };
         t * asked.factor < asked.load || t < asked.least
     };
     rows.iter()
@@ -104,11 +135,11 @@ fn too_thin_with_beams(floor: &Floor, stiffness: &Stiffness) -> bool {
 
 /// No inner panel asks for more than an outer one of the same ln, and every span lies in an outer panel: the longest clear
 /// span decides.
-fn too_thin_without(floor: &Floor, layout: Layout) -> bool {
+fn too_thin_without(floor: &Floor) -> bool {
     let longest = |way: usize| {
         let span = floor.spans(way).iter().max();
         span.map_or(0, |span| span - floor.column[way])
     };
     let ln = longest(X).max(longest(Y));
-    floor.t * n(floor.fy, layout, true) < ln || floor.t < 125
+    floor.t * n(floor.fy, true) < ln || floor.t < 125
 }

@@ -9,6 +9,7 @@ pub mod refused;
 pub mod small;
 mod spoilt;
 pub mod tied;
+pub mod weak;
 
 use crate::draw::Draw;
 use drawn::Wanted;

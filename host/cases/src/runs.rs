@@ -8,6 +8,7 @@ mod refused;
 mod small;
 pub mod tables;
 pub mod ties;
+mod weak;
 
 use reference::{held, opening};
 
@@ -25,6 +26,7 @@ pub struct Run {
 /// The runs to hold another program against.
 pub fn all() -> Vec<Run> {
     [
+        weak::runs(),
         clear::runs(),
         quiet::runs(),
         ties::runs(),

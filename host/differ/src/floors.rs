@@ -5,6 +5,7 @@ mod damage;
 mod drawn;
 mod edges;
 pub mod flips;
+pub mod weak;
 
 pub use damage::damaged;
 pub use drawn::floor;
@@ -22,9 +23,9 @@ use reference::opening::open;
 use reference::refusals::{refusal, SUCCESS};
 use reference::{governing, span, table};
 
-/// Floors in a case: as drawn, at the edge of a limit and past it, at an edge of beams and past it, with a tie,
-/// damaged.
-pub const FLOORS: u64 = 4 + 2 + 2 + 1 + 2;
+/// Floors in a case: as drawn, at the edge of a limit and past it, at an edge of beams and past it, with an outer
+/// line just strong enough and just too weak, with a tie, damaged.
+pub const FLOORS: u64 = 4 + 2 + 2 + 2 + 1 + 2;
 
 pub fn case(case: &mut Case) -> Result<(), String> {
     let drawn: [_; 4] = std::array::from_fn(|_| floor(&mut case.draw));
@@ -37,6 +38,9 @@ pub fn case(case: &mut Case) -> Result<(), String> {
     let (edge, at, past) = beams::edge(&mut case.draw);
     undamaged(case, &format!("beams at the edge, {edge}"), &at.bytes())?;
     undamaged(case, &format!("beams past the edge, {edge}"), &past.bytes())?;
+    let (strong, weak) = weak::edge(&mut case.draw);
+    undamaged(case, "with an edge just strong enough", &strong.bytes())?;
+    undamaged(case, "with an edge just too weak", &weak.bytes())?;
     let tied = tied::floor(&mut case.draw);
     undamaged(case, "with a tie", &tied.bytes())?;
     for floor in &drawn[2..] {
@@ -115,6 +119,7 @@ fn counted(tally: &mut Tally, floor: &[u8], (refused, verdict): (u128, u128)) ->
     tally.bays.add((nx, ny));
     beams::sorts(floor)
         .into_iter()
+        .chain(weak::sorts(floor))
         .for_each(|sort| tally.beams.add(sort));
     count_limits(&mut tally.limits, verdict);
     if verdict != 0 {

@@ -4,7 +4,7 @@ mod held;
 mod walk;
 
 use crate::case::Case;
-use crate::floors::{damaged, floor, lent_numbers};
+use crate::floors::{damaged, floor, lent_numbers, weak};
 use crate::same::hex;
 use cases::draw::Draw;
 use cases::runs::Run;
@@ -20,7 +20,7 @@ const AFTER_DAMAGE: u64 = 4;
 
 pub fn case(case: &mut Case) -> Result<(), String> {
     let opens = case.draw.percent(50);
-    let drawn = floor(&mut case.draw);
+    let drawn = started(&mut case.draw);
     let floor = thick_enough(&mut case.draw, drawn);
     let mut held = on_any_numbers(case, floor);
     if opens {
@@ -59,6 +59,14 @@ pub fn replay(case: &mut Case, run: &Run) -> Result<(), String> {
         compare(case, &mut held, change)?;
     }
     held.panels(case)
+}
+
+/// Now and then with an edge so near to 8000 that changes of its beam, or of the span beside it, make it weak and
+/// strong again.
+fn started(draw: &mut Draw) -> Floor {
+    let edged = draw.percent(15).then(|| weak::edge(draw).0);
+    let clear = edged.filter(|floor| judge(&floor.bytes()) == (SUCCESS, 0));
+    clear.unwrap_or_else(|| floor(draw))
 }
 
 fn on_any_numbers(case: &mut Case, floor: Vec<u8>) -> Held {

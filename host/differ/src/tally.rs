@@ -64,7 +64,8 @@ pub enum Opened {
     Refused(u128),
 }
 
-/// What decides how stiff a beam's flange is, and how stiff beams are to be (02, Two).
+/// What decides how stiff a beam's flange is, how stiff beams are to be (02, Two), and which edges are weak (02,
+/// Three).
 #[derive(Clone, Copy, Debug, PartialEq, Eq, PartialOrd, Ord)]
 pub enum BeamSort {
     /// h = t + 1
@@ -76,6 +77,13 @@ pub enum BeamSort {
     /// With beams everywhere: S within a hundredth of 8000 or 80000 and not past it, or past it.
     SumAt(u128),
     SumPast(u128),
+    /// On an outer line: α within a hundredth of 8000, below it or not.
+    EdgeBelow,
+    EdgeFrom,
+    /// α below 8000 on one of the two outer lines of a panel.
+    CornerHalfWeak,
+    /// Limit 64 is broken, and would not be if every edge were strong.
+    ThinByAnEdge,
 }
 
 impl fmt::Display for BeamSort {
@@ -87,6 +95,10 @@ impl fmt::Display for BeamSort {
             BeamSort::FlangeAbove => write!(f, "h − t above 4t"),
             BeamSort::SumAt(edge) => write!(f, "S up to {edge}"),
             BeamSort::SumPast(edge) => write!(f, "S past {edge}"),
+            BeamSort::EdgeBelow => write!(f, "an edge just below 8000"),
+            BeamSort::EdgeFrom => write!(f, "an edge just not below 8000"),
+            BeamSort::CornerHalfWeak => write!(f, "a corner with one weak edge of two"),
+            BeamSort::ThinByAnEdge => write!(f, "too thin by a weak edge alone"),
         }
     }
 }

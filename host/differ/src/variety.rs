@@ -37,7 +37,7 @@ const SIDES: usize = 81;
 const LAYOUTS: usize = 3;
 
 /// Each in one floor of a hundred or more.
-const OFTEN: [BeamSort; 8] = [
+const OFTEN: [BeamSort; 12] = [
     BeamSort::Shallow,
     BeamSort::FlangeBelow,
     BeamSort::FlangeEqual,
@@ -46,6 +46,10 @@ const OFTEN: [BeamSort; 8] = [
     BeamSort::SumPast(8_000),
     BeamSort::SumAt(80_000),
     BeamSort::SumPast(80_000),
+    BeamSort::EdgeBelow,
+    BeamSort::EdgeFrom,
+    BeamSort::CornerHalfWeak,
+    BeamSort::ThinByAnEdge,
 ];
 
 fn rare_beams(tally: &Tally) -> Vec<String> {

@@ -7,7 +7,7 @@ mod calls;
 pub use calls::Answer;
 
 /// `GANDHRUMIL_VERSION` of the header whose calls these are (docs/CHANGES.md).
-pub const VERSION: u32 = 3;
+pub const VERSION: u32 = 4;
 
 /// Opens a floor and fills its table, and the governing moments beside it.
 pub fn open(floor: &[u8], table: &mut [u32], governing: &mut [u32]) -> Answer {

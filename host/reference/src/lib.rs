@@ -1,4 +1,5 @@
-//! The rules of 01, and request One of 02, *Later changes to the base*, written as plainly as they read.
+//! The rules of 01, and requests One to Three of 02, *Later changes to the base*, written as plainly as they
+//! read.
 //!
 //! Speed and memory count for nothing here. Each rule stands under the sentence of 01 or 02 it follows,
 //! and every number is a `u128`, or an `i128` where it may fall below 0, far wider than any value of

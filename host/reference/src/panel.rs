@@ -81,26 +81,39 @@ pub fn panels(floor: &[u8]) -> Vec<(usize, usize)> {
     panels
 }
 
-/// Whether it touches an outer line, one of the first and last of a direction.
-fn is_outer(floor: &[u8], i: usize, j: usize) -> bool {
-    let Sizes { nx, ny, .. } = sizes(floor);
-    i == 0 || i + 1 == nx as usize || j == 0 || j + 1 == ny as usize
+/// The α of the outer lines of panel (i, j), the first and the last of a direction being outer: of x lines, then
+/// of y lines.
+pub fn outer_alphas(x_lines: &[u128], y_lines: &[u128], i: usize, j: usize) -> Vec<u128> {
+    let mut outer = Vec::new();
+    for (alphas, bay) in [(x_lines, j), (y_lines, i)] {
+        for line in [bay, bay + 1] {
+            if line == 0 || line + 1 == alphas.len() {
+                outer.push(alphas[line]);
+            }
+        }
+    }
+    outer
 }
 
-/// "Least thickness" of the panel of x bay i and y bay j, which the floor has.
-pub fn least_thickness(floor: &[u8], i: usize, j: usize) -> u128 {
+/// What the least thickness of the panel of x bay i and y bay j, which the floor has, is worked out from.
+pub fn panel_numbers(floor: &[u8], i: usize, j: usize) -> Panel {
     let (cx, cy) = columns(floor);
     let x_lines = x_line_alphas(floor);
     let y_lines = y_line_alphas(floor);
-    thickness::least_thickness(Panel {
+    Panel {
         layout: layout(floor).expect("refusal 7 applies"),
-        outer: is_outer(floor, i, j),
+        least_outer_alpha: outer_alphas(&x_lines, &y_lines, i, j).into_iter().min(),
         clear_x_span: clear_span(x_spans(floor)[i], cx),
         clear_y_span: clear_span(y_spans(floor)[j], cy),
         // "S the sum of its four line α"
         alpha_sum: x_lines[j] + x_lines[j + 1] + y_lines[i] + y_lines[i + 1],
         fy: records_of_kind(floor, 2)[0].b,
-    })
+    }
+}
+
+/// "Least thickness" of that panel.
+pub fn least_thickness(floor: &[u8], i: usize, j: usize) -> u128 {
+    thickness::least_thickness(panel_numbers(floor, i, j))
 }
 
 /// 10: "no such panel"

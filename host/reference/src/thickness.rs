@@ -1,12 +1,12 @@
-//! "Least thickness"
+//! "Least thickness", with "Thin slabs at weak edges" (02, Three).
 
 use crate::layout::Layout;
 
 #[derive(Clone, Copy, Debug, PartialEq, Eq)]
 pub struct Panel {
     pub layout: Layout,
-    /// Whether it touches an outer line.
-    pub outer: bool,
+    /// The least α of its outer lines; `None` of an inner panel, which has no outer line.
+    pub least_outer_alpha: Option<u128>,
     pub clear_x_span: u128,
     pub clear_y_span: u128,
     /// "S the sum of its four line α"
@@ -26,11 +26,19 @@ pub enum Place {
     Inner,
 }
 
-pub fn place(layout: Layout, outer: bool) -> Place {
-    match (outer, layout) {
-        (false, _) => Place::Inner,
-        (true, Layout::NoBeams) => Place::OuterWithoutEdgeBeams,
-        (true, Layout::OuterLinesOnly | Layout::Everywhere) => Place::OuterWithEdgeBeams,
+/// "a panel having an outer line with α below 8000" (02, Three): one of them is enough.
+fn has_weak_edge(panel: Panel) -> bool {
+    panel.least_outer_alpha.is_some_and(|alpha| alpha < 8000)
+}
+
+/// "Where the table of n applies, an outer panel with such a beam counts as having none." (02, Three)
+pub fn place(panel: Panel) -> Place {
+    match panel.least_outer_alpha {
+        None => Place::Inner,
+        Some(_) if panel.layout == Layout::NoBeams || has_weak_edge(panel) => {
+            Place::OuterWithoutEdgeBeams
+        }
+        Some(_) => Place::OuterWithEdgeBeams,
     }
 }
 
@@ -57,11 +65,11 @@ pub fn n(fy: u128, place: Place) -> u128 {
 fn thick_enough(panel: Panel, t: u128) -> bool {
     let Panel {
         layout,
-        outer,
         clear_x_span,
         clear_y_span,
         alpha_sum: s,
         fy,
+        ..
     } = panel;
     // "ln and sn are the panel's longer and shorter clear spans"
     let ln = clear_x_span.max(clear_y_span);
@@ -75,15 +83,27 @@ fn thick_enough(panel: Panel, t: u128) -> bool {
         1400 * t * (1440000 * sn + 5 * ln * (s - 8000)) >= 40000 * ln * sn * (1120 + fy) && t >= 125
     } else {
         // "otherwise t·n ≥ ln, t ≥ 125"
-        t * n(fy, place(layout, outer)) >= ln && t >= 125
+        t * n(fy, place(panel)) >= ln && t >= 125
     }
 }
 
-/// "Answer the least whole mm t with"
-pub fn least_thickness(panel: Panel) -> u128 {
+/// From 0 up.
+fn least_whole(enough: impl Fn(u128) -> bool) -> u128 {
     let mut t = 0;
-    while !thick_enough(panel, t) {
+    while !enough(t) {
         t += 1;
     }
     t
+}
+
+/// "Answer the least whole mm t with" (01)
+pub fn least_thickness(panel: Panel) -> u128 {
+    let answer_of_01 = least_whole(|t| thick_enough(panel, t));
+    // "With beams everywhere and S above 8000, a panel having an outer line with α below 8000 needs the
+    // least whole t with 10t ≥ 11 times the answer of 01." (02, Three)
+    if panel.layout == Layout::Everywhere && panel.alpha_sum > 8000 && has_weak_edge(panel) {
+        least_whole(|t| 10 * t >= 11 * answer_of_01)
+    } else {
+        answer_of_01
+    }
 }

@@ -3,12 +3,12 @@
 use mathlib.Core.Logic.{⊎-elim}
 use borrow.Author.Needs.{needs}
 use borrow.Author.Tests.{lt-ltb, le-ltb}
-use Rattle.thickness.specs.LeastThickness.{leastThickness}
+use Rattle.thickness.specs.LeastThickness.{answerOf01}
 use Rattle.thickness.proofs.rule_of.Statement.{statement}
 use Rattle.thickness.proofs.rule_of.Tie as tie
 
 pub rule-of-spec : {M : Type 1} → statement M
-unfolding leastThickness
+unfolding answerOf01
 rule-of-spec =
     tie.close
     (tie.spec

@@ -142,7 +142,7 @@ fn thicknesses() -> Vec<Figure> {
     let thickness = |layout, clear_x_span, clear_y_span, alpha_sum| {
         1000 * least_thickness(Panel {
             layout,
-            outer: false,
+            least_outer_alpha: None,
             clear_x_span,
             clear_y_span,
             alpha_sum,

@@ -15,7 +15,7 @@ pub fn edges() -> Vec<Edge> {
 }
 
 /// Width and depth.
-type Beam = (u32, u32);
+pub type Beam = (u32, u32);
 
 /// On outer lines, and on inner ones.
 type Beams = [Beam; 2];
@@ -209,7 +209,7 @@ const AT_8000: Inner = Inner {
     t: 140,
     span: 5_400,
     column: 780,
-    outer: (300, 230),
+    outer: (300, 270),
     on_x: [(210, 220); 2],
     on_y: [(210, 220); 2],
 };

@@ -2,7 +2,7 @@
 
 use super::beams::{self, Edge};
 use super::drawn::{self, Wanted};
-use super::{Described, LAYOUTS};
+use super::{weak, Described, LAYOUTS};
 use crate::draw::Draw;
 use floor::Floor;
 use reference::layout::Layout;
@@ -17,6 +17,7 @@ pub fn floors() -> Vec<Described> {
         beams::edges(),
         drawn_stiffnesses(),
         thicknesses(),
+        weak::edges(),
     ];
     let mut floors = Vec::new();
     for (words, floor) in edges.concat() {

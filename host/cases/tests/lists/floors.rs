@@ -8,7 +8,7 @@ use reference::floor_file::{records_of_kind, sides, sizes};
 use reference::frame::{x_frames, y_frames, Frame, OuterEnd};
 use reference::layout::{layout, Layout};
 use reference::moments::clear_length;
-use reference::panel::{panel, panels, x_line_alphas, y_line_alphas};
+use reference::panel::{panel, panel_numbers, panels};
 use reference::stiffness::torsion;
 use reference::strips::{beam_ratio, l2, span_ratio, torsion_ratio};
 use reference::table::numbers;
@@ -167,25 +167,26 @@ fn every_way_through_the_moments() {
     assert_eq!(seen.len(), 3 + 3 + 4 + 2, "{seen:?}");
 }
 
-/// "S > 80000", "8000 < S ≤ 80000", "otherwise": each decides in panels of clear floors with beams
-/// everywhere.
+/// "S > 80000", "8000 < S ≤ 80000", "otherwise": each decides in panels of clear floors with beams, at a weak edge,
+/// at a strong one and inside. Where S is not above 8000 with beams everywhere no edge is strong.
 #[test]
 fn every_way_through_the_thickness() {
     let mut seen = BTreeSet::new();
     for floor in clear_floors() {
-        if layout(&floor.bytes) != Some(Layout::Everywhere) {
-            continue;
-        }
-        let (x, y) = (x_line_alphas(&floor.bytes), y_line_alphas(&floor.bytes));
         for (i, j) in panels(&floor.bytes) {
-            seen.insert(match x[j] + x[j + 1] + y[i] + y[i + 1] {
-                80_001.. => "S > 80000",
-                8_001.. => "8000 < S",
-                _ => "otherwise",
-            });
+            let panel = panel_numbers(&floor.bytes, i, j);
+            let range = match (panel.layout, panel.alpha_sum) {
+                (Layout::Everywhere, 80_001..) => "S > 80000",
+                (Layout::Everywhere, 8_001..) => "8000 < S",
+                (Layout::Everywhere, _) => "otherwise",
+                (Layout::OuterLinesOnly, _) => "edge beams only",
+                (Layout::NoBeams, _) => continue,
+            };
+            let edge = panel.least_outer_alpha.map(|alpha| alpha < 8_000);
+            seen.insert((range, edge));
         }
     }
-    assert_eq!(seen.len(), 3, "{seen:?}");
+    assert_eq!(seen.len(), 4 * 3 - 1, "{seen:?}");
 }
 
 /// No rule tells x from y, so a floor with both changed round has the same verdict, and its panels the

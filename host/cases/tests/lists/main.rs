@@ -9,6 +9,7 @@ mod floors;
 mod queries;
 mod runs;
 mod tables;
+mod weak;
 
 use cases::refusals::{self, Case};
 use std::collections::BTreeSet;

@@ -264,6 +264,26 @@ fn limits_are_broken_and_mended() {
     assert!(steps.iter().any(broken_twice));
 }
 
+/// A weak edge breaks 64 whichever change makes it weak, and only where the slab is not thick enough for it.
+#[test]
+fn edges_made_weak_and_strong_again() {
+    let weak = runs()
+        .iter()
+        .filter(|(run, _)| run.description.starts_with("weak edges"));
+    let mut found = 0;
+    for (run, played) in weak {
+        let verdicts: Vec<u128> = played.changes.iter().map(|&(_, verdict)| verdict).collect();
+        let right: &[u128] = match run.description.ends_with("thick enough") {
+            true => &[0, 0],
+            false => &[64, 64, 0, 64, 0, 64, 64, 64, 0],
+        };
+        assert_eq!(judge(&run.floor), (0, 0), "{}", run.description);
+        assert_eq!(verdicts, right, "{}", run.description);
+        found += 1;
+    }
+    assert_eq!(found, 9 * 3);
+}
+
 #[test]
 fn every_refusal_comes_up() {
     let of_changes: BTreeSet<u128> = steps().iter().map(|step| step.refused).collect();

@@ -88,15 +88,26 @@ fn overwritten(draw: &mut Draw, floor: &[u8]) -> Vec<u8> {
     bytes
 }
 
-/// 6: "2cx exceeds an x span, or 2cy a y span": by 10 or 20, or not yet.
+/// 6: "2cx exceeds an x span, or 2cy a y span": by 10 or 20, or not yet. No column is above 1,500, so that where all
+/// spans are longer one of them is made 2,980.
 fn wide_columns(draw: &mut Draw, floor: &[u8]) -> Vec<u8> {
     let floor_of = Floor::of(floor).expect("a good floor");
-    let choices = [(Field::A, floor_of.x_spans), (Field::B, floor_of.y_spans)];
-    let (field, spans) = &choices[draw.between(0, 1)];
-    let shortest = spans.iter().min().expect("a bay");
-    let half = shortest / 20 * 10;
-    let column = draw.one_of(&[half, half + 10]).min(1_500);
-    with(floor, 4, 0, *field, column)
+    let choices = [
+        (Field::A, 5, floor_of.x_spans),
+        (Field::B, 6, floor_of.y_spans),
+    ];
+    let (field, kind, spans) = &choices[draw.between(0, 1)];
+    let shortest = *spans.iter().min().expect("a bay");
+    let half = (shortest / 20 * 10).min(1_490);
+    let column = half + draw.one_of(&[0, 10]);
+    let wide = with(floor, 4, 0, *field, column);
+    match shortest {
+        ..=2_980 => wide,
+        _ => {
+            let index = any_index(draw, floor, *kind);
+            with(&wide, *kind, index, Field::A, 2_980)
+        }
+    }
 }
 
 /// 7: "layout not allowed, or a line has a beam whose depth is not above t"

@@ -73,6 +73,28 @@ fn beams() -> Batch {
     batch
 }
 
+/// Beams everywhere, an outer line with α 8,000 made 7,999 and 8,000 again: the slab of 200 is then 1 mm too thin,
+/// and an inner panel asks for no more.
+fn weak_edge() -> Batch {
+    let floor = Floor {
+        x_spans: vec![6_580; 3],
+        y_spans: vec![5_000; 3],
+        x_lines: vec![(655, 291), (300, 330), (300, 330), (400, 400)],
+        y_lines: vec![(400, 400), (300, 330), (300, 330), (400, 400)],
+        ..Floor::clear(3, 3)
+    };
+    let edge = |(width, depth)| Call::Change(record(7, 0, [width, depth, 0]));
+    let calls = [
+        Call::Open,
+        Call::Panel(1, 0),
+        edge((772, 277)),
+        Call::Panel(1, 0),
+        Call::Panel(1, 1),
+        edge((655, 291)),
+    ];
+    batch(lent(&floor), &calls)
+}
+
 /// Refused 1; 8 and 13 for a table and a slice that are a number short. None of them writes.
 fn refused_floors() -> [Batch; 3] {
     let no_floor = Lent::of(&Floor::clear(3, 3).bytes()[..40], &[7, 8], &[9]);
@@ -93,7 +115,7 @@ fn refused_floors() -> [Batch; 3] {
 
 pub fn batches() -> Vec<Batch> {
     let queries = [2_195_000, 0, 20_000_000, 2_000_000_001].map(query);
-    let mut batches = vec![clear_floor(), wrong_numbers(), beams()];
+    let mut batches = vec![clear_floor(), wrong_numbers(), beams(), weak_edge()];
     batches.extend(refused_floors());
     batches.push(batch(Lent::default(), &queries));
     batches

@@ -73,7 +73,7 @@ fn floors_with_every_byte_flipped() {
 
 #[test]
 fn changes() {
-    let batches = batches("runs of changes", 20, |case, _| runs::case(case));
+    let batches = batches("runs of changes", 30, |case, _| runs::case(case));
     let found = refusals(&batches, changing);
     let wanted = BTreeSet::from([0, 5, 6, 7, 8, 9, 13]);
     assert!(found.is_superset(&wanted), "{found:?}");

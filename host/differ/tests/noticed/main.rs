@@ -5,14 +5,18 @@ mod openings;
 mod order;
 mod stiffness;
 mod supports;
+mod weak;
 
 use cases::draw::Draw;
+use cases::floors::Described;
+use cases::runs::Run;
 use differ::case::Case;
 use differ::job::{Calls, Change, Job, LIBRARY};
 use differ::tally::Tally;
 use differ::work::{parts, Amount};
 use differ::{floors, runs, variety};
 use gandhrumil::{Answer, Query};
+use std::sync::LazyLock;
 
 const FEW: Amount = Amount {
     floors: 400,
@@ -59,13 +63,17 @@ fn noticed_in<T>(
     compared.find_map(Result::err).expect("a difference")
 }
 
+/// Drawn once for all tests.
+static RUNS: LazyLock<Vec<Run>> = LazyLock::new(cases::runs::all);
+static FLOORS: LazyLock<Vec<Described>> = LazyLock::new(cases::floors::all);
+
 fn noticed_in_runs(change: Change) -> String {
     let calls = Calls { change, ..LIBRARY };
-    noticed_in(&cases::runs::all(), calls, runs::replay)
+    noticed_in(&RUNS, calls, runs::replay)
 }
 
 fn noticed_in_floors(calls: Calls) -> String {
-    noticed_in(&cases::floors::all(), calls, |case, floor| {
+    noticed_in(&FLOORS, calls, |case, floor| {
         floors::undamaged(case, "described", &floor.bytes)
     })
 }
@@ -166,6 +174,8 @@ fn what_never_came_up() {
         "some choice of sides",
         "one floor of a hundred: h − t = 4t",
         "one floor of a hundred: S past 80000",
+        "one floor of a hundred: an edge just below 8000",
+        "one floor of a hundred: too thin by a weak edge alone",
         "a change: Mended",
         "a change: Refused(9)",
         "a change: Refused(13)",

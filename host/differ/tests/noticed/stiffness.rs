@@ -6,7 +6,7 @@ use floor::Floor;
 use gandhrumil::Answer;
 use reference::floor_file::{records_of_kind, sizes};
 use reference::layout::{layout, x_lines, y_lines, Layout, Line};
-use reference::panel::{adjoining, columns, x_spans, y_spans};
+use reference::panel::{adjoining, columns, outer_alphas, x_spans, y_spans};
 use reference::stiffness::{flange, frame_width};
 use reference::thickness::{clear_span, least_thickness, Panel};
 use reference::verdict::too_unlike;
@@ -95,7 +95,7 @@ fn panel_by<const RULE: usize>(floor: &[u8], x: u64, y: u64) -> Answer {
     let ((cx, cy), (i, j)) = (columns(floor), (x as usize, y as usize));
     let least = least_thickness(Panel {
         layout: Layout::Everywhere,
-        outer: false,
+        least_outer_alpha: outer_alphas(&on_x, &on_y, i, j).into_iter().min(),
         clear_x_span: clear_span(x_spans(floor)[i], cx),
         clear_y_span: clear_span(y_spans(floor)[j], cy),
         alpha_sum: on_x[j] + on_x[j + 1] + on_y[i] + on_y[i + 1],

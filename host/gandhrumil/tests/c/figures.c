@@ -100,9 +100,28 @@ static void governing_moments(void)
     expect_five("x line 1, support 3", governing + 5 * 7, outer);
 }
 
+/* A beam of 967 by 273 on x line 0, W 3,200, has alpha 8,000 and one of 901 by 279 has 7,999. In 3 by 3 bays of 6,000 it lies along the corner
+ * panel: with beams everywhere 5600 * 1.1 / 45 = 136.9, and ten percent more than 137 is 150.7; between edge beams only 5600/33 and 5600/30. */
+static void weak_edges(void)
+{
+    floor_file everywhere = square(3, BEAMS_EVERYWHERE), edges = square(3, EDGE_BEAMS);
+    /* After sizes, materials, loads, columns and six spans. */
+    const size_t x_line_0 = 10;
+    set(&everywhere, x_line_0, 967, 273, 0);
+    set(&edges, x_line_0, 967, 273, 0);
+    expect("corner, edge 8,000", gandhrumil_panel(everywhere.bytes, everywhere.len, 0, 0), 0, 137);
+    expect("corner, edge 8,000, edge beams", gandhrumil_panel(edges.bytes, edges.len, 0, 0), 0, 170);
+    set(&everywhere, x_line_0, 901, 279, 0);
+    set(&edges, x_line_0, 901, 279, 0);
+    expect("corner, edge 7,999", gandhrumil_panel(everywhere.bytes, everywhere.len, 0, 0), 0, 151);
+    expect("corner, edge 7,999, edge beams", gandhrumil_panel(edges.bytes, edges.len, 0, 0), 0, 187);
+    expect("inner", gandhrumil_panel(everywhere.bytes, everywhere.len, 1, 1), 0, 137);
+}
+
 int main(void)
 {
     floors();
+    weak_edges();
     governing_moments();
     expect("steel", gandhrumil_steel(2195000, 1000, 150, 124, 30, 420), 0, 484);
     expect("steel for no moment", gandhrumil_steel(0, 1000, 150, 124, 30, 420), 0, 270);

@@ -2,7 +2,7 @@
 
 use crate::hand_made::{self, ONE_BAY, THIN, TWO_BY_ONE};
 use crate::verdict::refused;
-use floor::Floor;
+use floor::{Floor, NO_BEAM};
 use reference::panel::{adjoining, panel, x_line_alphas, y_line_alphas};
 use reference::stiffness::Adjoining;
 use reference::verdict::judged;
@@ -71,7 +71,8 @@ const WITHOUT_BEAMS_TRANSPOSED: &str = "0 0
 /// 750b/(2b + 125) outside, over 3,200, and 8b + 250 + 750b/(b + 125) inside, over 6,000: α is 5,233,
 /// 3,098, 9,371 on x lines and 13,427, 9,451, 21,477 on y lines. Against p the q of a panel is at most
 /// 30,928 to 8,331. S is 31,209 and 39,259 south, 35,347 and 43,397 north, and 40000·5600·1.1 is
-/// 158.3 and 154.4, 156.3 and 152.4 times 1440000 + 5(S − 8000).
+/// 158.3 and 154.4, 156.3 and 152.4 times 1440000 + 5(S − 8000). South, where the outer line has 5,233, ten
+/// percent more than 159 and 155 are 174.9 and 170.5; north only the inner line is below 8,000.
 fn with_beams() -> Floor {
     Floor {
         t: 125,
@@ -82,13 +83,13 @@ fn with_beams() -> Floor {
 }
 
 const WITH_BEAMS: &str = "0 65
-159 155
+175 171
 157 153
 ";
 
 const WITH_BEAMS_TRANSPOSED: &str = "0 65
-159 157
-155 153
+175 157
+171 153
 ";
 
 #[test]
@@ -111,6 +112,143 @@ fn typed_floors_judged() {
     assert_eq!(judged(&hand_made::floor(ONE_BAY)), "0 1\n125\n");
     assert_eq!(judged(&hand_made::floor(THIN)), "0 65\n93\n");
     assert_eq!(judged(&hand_made::floor(TWO_BY_ONE)), "0 65\n185 185\n");
+}
+
+/// On an outer line, where W is 3,200, α of the first is 7,999 and of the second 8,000.
+const WEAK: (u32, u32) = (901, 279);
+const STRONG: (u32, u32) = (967, 273);
+
+/// Bays of 6,000, columns of 400 and a slab of 200: three bays each way, with one beam on the outer lines and
+/// one on the inner ones.
+fn edged(outer: (u32, u32), inner: (u32, u32)) -> Floor {
+    let lines = vec![outer, inner, inner, outer];
+    Floor {
+        x_lines: lines.clone(),
+        y_lines: lines,
+        ..Floor::clear(3, 3)
+    }
+}
+
+/// A line below 8,000 in place of one of the four outer ones: south, north, west, east.
+fn weakened(floor: &Floor, edge: usize) -> Floor {
+    let mut floor = floor.clone();
+    let lines = match edge {
+        0 | 1 => &mut floor.x_lines,
+        _ => &mut floor.y_lines,
+    };
+    lines[[0, 3][edge % 2]] = WEAK;
+    floor
+}
+
+/// Whether panel (x, y) of three bays each way touches that edge.
+fn touches(edge: usize, x: u128, y: u128) -> bool {
+    [y == 0, y == 2, x == 0, x == 2][edge]
+}
+
+/// W is 3,200 outside. 901·279³ + 79·200³ + ⌊3·251379·15800·79²/267179⌋, where the last is 278,329,473, are
+/// 20,477,922,212, over 3,200·200³ 0.79992; 967·273³ + 73·200³ + ⌊3·263991·14600·73²/278591⌋, where the last
+/// is 221,177,970, are 20,480,163,209, over the same 0.800006. Inside, over 6,000, 300 by 300 has 0.2193.
+#[test]
+fn alphas_at_the_edge() {
+    for (beam, expected) in [(WEAK, 7_999), (STRONG, 8_000)] {
+        let floor = edged(beam, (300, 300)).bytes();
+        for alphas in [x_line_alphas(&floor), y_line_alphas(&floor)] {
+            assert_eq!(alphas, [expected, 2_193, 2_193, expected]);
+        }
+    }
+}
+
+/// "a panel having an outer line with α below 8000": one of a corner's two is enough, and inner lines do not
+/// count. S is 20,386 at a corner, 14,579 between two corners and 8,772 inside, one less at a weak line: 01
+/// asks for 164.06, 167.3 and 170.7. Ten percent more than 165 and 168 are 181.5 and 184.8.
+#[test]
+fn a_weak_line_of_a_panel() {
+    let strong = edged(STRONG, (300, 300));
+    assert_eq!(
+        judged(&strong.bytes()),
+        "0 0\n165 168 165\n168 171 168\n165 168 165\n"
+    );
+    for edge in 0..4 {
+        let floor = weakened(&strong, edge).bytes();
+        for (x, y) in (0..3).flat_map(|x| (0..3).map(move |y| (x, y))) {
+            let expected = match (touches(edge, x, y), x == 1, y == 1) {
+                (true, false, false) => 182,
+                (true, ..) => 185,
+                (false, true, true) => 171,
+                (false, false, false) => 165,
+                (false, ..) => 168,
+            };
+            assert_eq!(panel(&floor, x, y), (0, expected), "edge {edge}, {x} {y}");
+        }
+    }
+}
+
+/// "an outer panel with such a beam counts as having none": edge beams only, 5600 by 33, 30, 28 in place of
+/// 36, 33, 31.
+#[test]
+fn a_weak_beam_where_the_table_of_n_applies() {
+    for (fy, without, with) in [(280, 170, 156), (420, 187, 170), (520, 200, 181)] {
+        for edge in 0..4 {
+            let strong = edged(STRONG, NO_BEAM);
+            let floor = Floor {
+                fy,
+                ..weakened(&strong, edge)
+            };
+            for (x, y) in (0..3).flat_map(|x| (0..3).map(move |y| (x, y))) {
+                let expected = if touches(edge, x, y) { without } else { with };
+                let found = panel(&floor.bytes(), x, y);
+                assert_eq!(found, (0, expected), "fy {fy}, edge {edge}, {x} {y}");
+            }
+        }
+    }
+}
+
+/// With one bay all four lines are outer. With 8,000 on each of them S is 32,000 and 01 asks for 157.9. The
+/// table of n applies with beams everywhere too: 150·201³ + 200³ + 596 over 3,200·200³ is 0.0478, and 5600/30
+/// is 186.7.
+#[test]
+fn weak_edges_of_a_single_bay() {
+    for (weak_lines, expected) in [(0, 158), (1, 174), (4, 174)] {
+        let mut floor = Floor::clear(1, 1);
+        let mut lines = [STRONG; 4];
+        lines[..weak_lines].fill(WEAK);
+        (floor.x_lines, floor.y_lines) = (lines[..2].to_vec(), lines[2..].to_vec());
+        assert_eq!(panel(&floor.bytes(), 0, 0), (0, expected));
+        assert_eq!(panel(&floor.transposed().bytes(), 0, 0), (0, expected));
+    }
+    let shallow = vec![(150, 201); 2];
+    let mut floor = Floor::clear(1, 1);
+    (floor.x_lines, floor.y_lines) = (shallow.clone(), shallow);
+    assert_eq!(x_line_alphas(&floor.bytes()), [478; 2]);
+    assert_eq!(panel(&floor.bytes(), 0, 0), (0, 187));
+}
+
+/// Bays of 12,000 between columns of 200, fy 520 and weak beams everywhere. At a corner S is 8,534: 11800 times
+/// 1.1714/(36 + 5·0.01335) is 383.3, and ten percent more than 384 is 422.4. Elsewhere S is not above 8000, and
+/// 11800/28 is 421.4.
+#[test]
+fn the_thickest_panel() {
+    let mut floor = edged((900, 520), (900, 520));
+    (floor.t, floor.fy, floor.cx, floor.cy) = (430, 520, 200, 200);
+    (floor.x_spans, floor.y_spans) = (vec![12_000; 3], vec![12_000; 3]);
+    let alphas = [2_774, 1_493, 1_493, 2_774];
+    assert_eq!(x_line_alphas(&floor.bytes()), alphas);
+    assert_eq!(panel(&floor.bytes(), 0, 0), (0, 423));
+    assert_eq!(panel(&floor.bytes(), 1, 0), (0, 422));
+}
+
+/// "for columns, walls and masonry edges alike"
+#[test]
+fn weak_edges_whatever_the_sides() {
+    let weak = weakened(&edged(STRONG, (300, 300)), 0);
+    let right = judged(&weak.bytes());
+    for sides in [1, 2, 16, 32, 85, 100, 170] {
+        let floor = Floor {
+            sides,
+            ..weak.clone()
+        };
+        assert_eq!(judged(&floor.bytes()), right, "sides {sides}");
+    }
 }
 
 /// 5600 by the divisors of each grade: 33, 30, 28 outer and 36, 33, 31 inner.

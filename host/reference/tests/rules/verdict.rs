@@ -336,6 +336,32 @@ fn limit_64_by_the_inner_panel_alone() {
     }
 }
 
+/// "This amends verdict 64": a slab of 200 with α 7,999 (901 by 279) or 8,000 (967 by 273) on one outer x line,
+/// W being 3,200, and stiff beams on the others. Between edge beams alone 6000/30 = 200 and 6020/30 = 200.7,
+/// while 6020/33 = 182.4. With beams everywhere 01 asks for 180.8 and 181.1 by 8,040 and 8,060 clear to 5,600:
+/// ten percent more than 181 and 182 are 199.1 and 200.2.
+#[test]
+fn limit_64_at_weak_edges() {
+    const STIFF: (u32, u32) = (400, 650);
+    for (inner, x_span, weak, expected) in [
+        (NO_BEAM, 6_400, true, 0),
+        (NO_BEAM, 6_420, true, 64),
+        (NO_BEAM, 6_420, false, 0),
+        (STIFF, 8_440, true, 0),
+        (STIFF, 8_460, true, 64),
+        (STIFF, 8_460, false, 0),
+    ] {
+        for line in [0, 3] {
+            let mut floor = Floor::clear(3, 3);
+            floor.x_spans = vec![x_span; 3];
+            floor.x_lines = vec![STIFF, inner, inner, STIFF];
+            floor.y_lines = floor.x_lines.clone();
+            floor.x_lines[line] = if weak { (901, 279) } else { (967, 273) };
+            assert_verdict(&floor, expected);
+        }
+    }
+}
+
 /// "A sum of what is broken". 12,000 is more than 2·5,000, and 3·(12,000 − 6,000) more than 12,000;
 /// 10·501 is more than 5,000; α of y lines is thousands of times that of x lines; 11,800 by 4,800 asks
 /// for 223.3.
