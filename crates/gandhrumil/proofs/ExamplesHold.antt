@@ -1,9 +1,11 @@
 -- What is said of the examples: refusals, verdicts and the first record by computing, and from them what opening and the change answer.
 -- Assumes nothing.
 use Prim.Native.Nat.{ℕ, _+_, _*_, _<_, zero-le}
+use mathlib.Core.Bool.{cond}
 use mathlib.Core.List.{List}
 use mathlib.Core.Path.{_≡_, refl, ap, subst, _∙_}
 use native.Mathlib.Omega.{arith}
+use lib.Dec.{eqb}
 use lib.ListN.{getD}
 use Rattle.changes.specs.Change.{changeOk, changed}
 use Rattle.changes.specs.Refusal.{changeChecks, changeRefusal}
@@ -41,6 +43,8 @@ use Rattle.moments.specs.Lent.{Lent}
 use Rattle.moments.specs.Tables.{Lodged}
 use Rattle.moments.specs.Opening.{Opened}
 use Rattle.moments.proofs.Room.{open-whole, change-whole}
+use Rattle.answers.specs.Answers.{answer}
+use Rattle.clear.specs.Answers.{clearOf}
 use Rattle.gandhrumil.specs.Examples.{oneBay, garage, lighter, firstSpan, Example, Examples}
 use Rattle.gandhrumil.proofs.Demands.{demand-two}
 
@@ -56,12 +60,17 @@ computed = (refl, refl, refl, refl, refl, refl, refl, refl, refl)
 
 -- ---- from that
 
+cleared : (f : List ℕ) {v : ℕ} → refusal f ≡ 0 → verdict f ≡ v → clearOf f ≡ answer 0 (cond (eqb v 0) 1 0)
+unfolding clearOf
+cleared f e j = rw (e, j)
+
 example : {f : List ℕ} {v : ℕ} → refusal f ≡ 0 → verdict f ≡ v → Example f v
 example {f} e j =
     record {
       accepted = given 0 f .0 e;
       judged = subst (Broken f) j (broken f e);
       opens = λ {l = l} o room. o .answer ∙ rw (open-whole f l e room, j);
+      clear = cleared f e j;
     }
 
 opened-first : refusal garage ≡ 0 → verdict garage ≡ 0 → recordOf (viewIn garage first) ≡ firstSpan → bays garage X ≡ 5 → {l l′ : Lent} {a : Answer} → Opened garage l a l′ → Lodged garage l

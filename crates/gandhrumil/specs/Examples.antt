@@ -1,8 +1,10 @@
 -- Two floors and a change written out, to show that the promises are not vacuous. proofs/ExamplesHold shows what is said of them, by computing.
 -- Assumes nothing.
 use Prim.Native.Nat.{ℕ, zero, suc, _/_, _%_, _<_}
+use mathlib.Core.Bool.{cond}
 use mathlib.Core.List.{List, [], _∷_, _++_}
 use mathlib.Core.Path.{_≡_}
+use lib.Dec.{eqb}
 use lib.ListN.{getD}
 use Rattle.floor.specs.Refusal.{Given}
 use Rattle.changes.specs.Change.{changed}
@@ -10,6 +12,7 @@ use Rattle.limits.specs.Meaning.{Broken}
 use Rattle.tables.specs.Width.{recordWidth}
 use Rattle.answers.specs.declared.Answer.{Answer}
 use Rattle.answers.specs.Answers.{answer}
+use Rattle.clear.specs.Answers.{clearOf}
 use Rattle.moments.specs.Lent.{Lent}
 use Rattle.moments.specs.Tables.{Lodged}
 use Rattle.moments.specs.Opening.{Opened}
@@ -72,11 +75,12 @@ lighter = entry 3 0 7000 4500 0
 
 -- ---- what is said of them
 
--- floor f is accepted, v names what is broken, and opening it answers so wherever table and slice have room
+-- floor f is accepted, v names what is broken, opening it answers so wherever table and slice have room, and it is clear where v is 0
 pub record Example (f : List ℕ) (v : ℕ) : Type 0 where
   pub accepted : Given 0 f
   pub judged : Broken f v
   pub opens : {l l′ : Lent} {a : Answer} → Opened f l a l′ → Lodged f l → a ≡ answer 0 v
+  pub clear : clearOf f ≡ answer 0 (cond (eqb v 0) 1 0)
 
 -- the first span of the southern frame: Mo, then low end, between and high end, each as total, column, middle, beam and slab
 abbrev pub firstSpan : List ℕ
