@@ -1,1 +1,4 @@
 pub mod Answers
+pub mod Walk
+pub mod Rows
+pub mod Verdict

@@ -1,8 +1,8 @@
 -- Limits 2 and 32 over all panels, by the extremes of the two directions (numbers' apart-extremes).
---     ends-done, least-most     the loop's end, and a bound
+--     ends-done, ends-in        the loop's end, and a bound
 --     apart-is                  the extremes decide
 --     spans-in, shares-in       the spans of a direction, and p or q, in range
---     raw, shares-of            p or q of every bay, as they are worked out
+--     bay-of, shares-of         a bay in range, and p or q of every bay, as they are worked out
 --     slender-is, unequal-is    some pair of values apart is some panel that breaks the limit
 --     beamed, beamless          limit 32, by cases of the layout
 -- Assumes nothing.
@@ -26,22 +26,22 @@ use Rattle.floor.proofs.Fair.{fair}
 use Rattle.lines.specs.declared.slab.Slab.{Slab}
 use Rattle.lines.specs.Lines.{pairAlpha, isEverywhere}
 use Rattle.lines.specs.Slabs.{slabOf}
-use Rattle.lines.specs.Rows.{Spans, rowOf, pairAt}
-use Rattle.lines.specs.Asked.{TwoAlphas, Surveyed, Ready}
+use Rattle.lines.specs.Rows.{Spans, rowOf}
+use Rattle.lines.specs.Asked.{Surveyed, Ready}
 use Rattle.lines.proofs.Slabs.{laid-of, bays-of}
 use Rattle.lines.proofs.Filled.{Filled, beside, pair-in, pair-is}
 use Rattle.lines.proofs.Floors.{alpha-bound}
 use Rattle.limits.specs.Limits.{somePair, somePanel, slenderPanel, unequalPanel, unbalanced}
 use Rattle.extremes.specs.declared.Ends.{Ends}
-use Rattle.extremes.specs.Extremes.{apartSome, endsOf, shareOf, Shares}
-use Rattle.extremes.specs.Asked.{Values, Share, Sharing}
+use Rattle.extremes.specs.Extremes.{apartSome, endsOf, endsApart, shareAt, shareOf, Shares}
+use Rattle.extremes.specs.Asked.{Values, EndsIn, BaySharing, Sharing}
 
 -- the same pairs, with tests that answer the same
 pair-same : (n m : ℕ) (p q : ℕ → ℕ → Bool) → ((i j : ℕ) → i < n → j < m → p i j ≡ q i j) → somePair n m p ≡ somePair n m q
 unfolding somePair
 pair-same n m p q h = until-same true m _ _ (λ j l. until-same true n _ _ (λ i k. h i j k l))
 
-or-swap : (a b : Bool) → (a || b) ≡ (b || a)
+pub or-swap : (a b : Bool) → (a || b) ≡ (b || a)
 or-swap true true = refl
 or-swap true false = refl
 or-swap false true = refl
@@ -55,13 +55,13 @@ module _ {a : List ℕ} {n : ℕ} (known : Values a n) where
   unfolding endsOf
   ends-done {i} h l p q = let e : i ≡ n = omega (arith, h, l) in rw (p, q, e)
 
-  pub least-most : {e : Ends} → e ≡ endsOf n (λ j. getD a j 0) → e .least ≤ 57600000000000000
+  pub ends-in : {e : Ends} → e ≡ endsOf n (λ j. getD a j 0) → EndsIn e
   unfolding endsOf
-  least-most q = rw q (least-within n _ _ (known .some) (known .most))
+  ends-in q = record { least = rw q (least-within n _ _ (known .some) (known .most)) }
 
 pub apart-is : (k : ℕ) {a b : List ℕ} {n m : ℕ} {x y : Ends} {r : Bool} → Values a n → Values b m
     → x ≡ endsOf n (λ i. getD a i 0) → y ≡ endsOf m (λ i. getD b i 0)
-    → r ≡ (ltb (k * y .least) (x .most) || ltb (k * x .least) (y .most)) → r ≡ apartSome k a n b m
+    → r ≡ endsApart k x y → r ≡ apartSome k a n b m
 unfolding apartSome somePair endsOf
 apart-is k {a} {b} {n} {m} p q ex ey e =
     rw (ex, ey) at e ∙ sym (apart-extremes k n m (λ i. getD a i 0) (λ j. getD b j 0) (p .some) (q .some))
@@ -100,10 +100,6 @@ module _ (f : List ℕ) (e : refusal f ≡ 0) where
         most = λ k h. rw (known .is k (omega (arith, h))) (share-most d k (omega (arith, h)));
       }
 
--- p or q as it is worked out of what is at hand
-abbrev pub raw : List ℕ → List ℕ → ℕ → ℕ
-raw a s k = pairAt a k * (getD s k 0 * getD s k 0)
-
 module _ {f : List ℕ} {d : Way} {a s : List ℕ} {n : ℕ} (p : Sharing f d a s n) where
   below : {k : ℕ} → k < n → k < lastLine f d
   below h = omega (arith, p .number, h)
@@ -111,13 +107,10 @@ module _ {f : List ℕ} {d : Way} {a s : List ℕ} {n : ℕ} (p : Sharing f d a 
   pub inside : {k : ℕ} → k < n → k < 13
   inside h = omega (arith, below h, fair f (p .accepted) .bays-in (across d))
 
-  pub pair-of : {k : ℕ} → k < n → TwoAlphas a k
-  pair-of h = pair-in (beside (p .alphas) (below h)) (p .accepted) (below h)
+  pub bay-of : {k : ℕ} → k < n → BaySharing a s k
+  bay-of {k} h = record { pair = pair-in (beside (p .alphas) (below h)) (p .accepted) (below h); span-most = rw (p .spans .is k (inside h)) (fair f (p .accepted) .span-most (across d) k) }
 
-  pub share-in : {k x : ℕ} → k < n → x ≤ 400000000 → Share x (getD s k 0)
-  share-in {k} h l = record { pair-most = l; span-most = rw (p .spans .is k (inside h)) (fair f (p .accepted) .span-most (across d) k) }
-
-  pub shares-of : {r : List ℕ} → Filled (raw a s) 0 n r → Shares f d r
+  pub shares-of : {r : List ℕ} → Filled (shareAt a s) 0 n r → Shares f d r
   unfolding shareOf
   shares-of {r} h =
       record {

@@ -4,9 +4,12 @@ ghost use mathlib.Core.Path.{_≡_};
 ghost use Prim.Native.Nat.{_*_, _≤_};
 ghost use lib.ListN.{getD};
 ghost use Rattle.lines.specs.Asked.{Surveyed, Ready};
+ghost use mathlib.Core.Bool.{_&&_};
+ghost use Rattle.lines.specs.Lines.{isEverywhere};
 ghost use Rattle.limits.specs.Limits.{somePanel, slenderPanel, unbalanced};
-ghost use Rattle.extremes.specs.Extremes.{endsOf, apartSome, Shares};
-ghost use Rattle.extremes.specs.Asked.{Values, Ratio, Share, Sharing};
+ghost use Rattle.extremes.specs.Extremes.{noEnds, widen, endsOf, endsApart, apartSome, one, shareAt, Shares};
+ghost use Rattle.extremes.specs.Asked.{Values, EndsIn, Ratio, Share, InShare, BaySharing, Sharing};
+use layouts::Layout;
 use lines::line::X;
 use lines::line::Y;
 use lines::line::pair_alpha;
@@ -17,10 +20,32 @@ use numbers::larger;
 use numbers::smaller;
 use plan::ways::Way;
 
+// 32: "p > 5q or q > 5p".
+const TIMES: u64 = 5;
+
 // The least and the most of some values.
-struct Ends {
-    least: u64,
-    most: u64,
+pub struct Ends {
+    pub least: u64,
+    pub most: u64,
+}
+
+// Of none yet: the first value to join is both.
+pub fn no_ends() -> Ends
+    ensures { λ r. ⌜ r ≡ noEnds ⌝ }
+{
+    Ends {
+        least: 57600000000000000,
+        most: 0,
+    }
+}
+
+pub fn widened(e: Ends, v: u64) -> Ends
+    ensures { λ r. ⌜ r ≡ widen e v ⌝ }
+{
+    Ends {
+        least: smaller(e.least, v),
+        most: larger(e.most, v),
+    }
 }
 
 // Of the first n.
@@ -39,6 +64,16 @@ fn ends_of(a: &[u64; 13], n: u32) -> Ends
     Ends { least, most }
 }
 
+// Does some value between the one ends exceed k times some value between the other?
+fn ends_apart(x: Ends, y: Ends, k: u64) -> bool
+    requires { ⌜ EndsIn x ⌝ }
+    requires { ⌜ EndsIn y ⌝ }
+    requires { ⌜ Ratio k ⌝ }
+    ensures { λ r. ⌜ r ≡ endsApart k x y ⌝ }
+{
+    either(k * y.least < x.most, k * x.least < y.most)
+}
+
 // Is there a pair, one of a's first n and one of b's first m, in which one exceeds k times the other?
 fn apart(a: &[u64; 13], n: u32, b: &[u64; 13], m: u32, k: u64) -> bool
     requires { ⌜ Values (now a) n ⌝ }
@@ -46,9 +81,7 @@ fn apart(a: &[u64; 13], n: u32, b: &[u64; 13], m: u32, k: u64) -> bool
     requires { ⌜ Ratio k ⌝ }
     ensures { λ r. ⌜ r ≡ apartSome k (now (a .entry)) n (now (b .entry)) m ⌝ }
 {
-    let x = ends_of(a, n);
-    let y = ends_of(b, m);
-    either(k * y.least < x.most, k * x.least < y.most)
+    ends_apart(ends_of(a, n), ends_of(b, m), k)
 }
 
 // 2
@@ -67,6 +100,15 @@ fn share(pair: u64, span: u64) -> u64
     pair * (span * span)
 }
 
+// Of bay k, from α of the lines on either side of it.
+pub fn share_at(a: &[u64; 13], s: &[u64; 13], k: u32) -> u64
+    requires { ⌜ BaySharing (now a) (now s) k ⌝ }
+    ensures { λ r. ⌜ (r ≡ shareAt (now (a .entry)) (now (s .entry)) k) × (r ≤ 57600000000000000) ⌝ }
+{
+    let i = k as usize;
+    share(pair_alpha(a, k), s[i])
+}
+
 // Of each of the n bays across the lines along d: p where the lines run along x, q where they run along y.
 fn shares(f: &[u8], d: Way, a: &[u64; 13], s: &[u64; 13], n: u32) -> [u64; 13]
     requires { ⌜ Sharing (now f) d (now a) (now s) n ⌝ }
@@ -75,8 +117,7 @@ fn shares(f: &[u8], d: Way, a: &[u64; 13], s: &[u64; 13], n: u32) -> [u64; 13]
     let mut p = [0u64; 13];
     let mut k: u32 = 0;
     while k < n {
-        let i = k as usize;
-        p[i] = share(pair_alpha(a, k), s[i]);
+        p[k as usize] = share_at(a, s, k);
         k += 1;
     }
     p
@@ -90,5 +131,14 @@ pub fn unbalanced(f: &[u8], slab: Slab, spans: &[[u64; 13]; 2], alphas: &[[u64; 
     let layout = slab.layout;
     let p = shares(f, Way::X, &alphas[X], &spans[Y], slab.bays.y);
     let q = shares(f, Way::Y, &alphas[Y], &spans[X], slab.bays.x);
-    is_everywhere(layout) && apart(&q, slab.bays.x, &p, slab.bays.y, 5)
+    is_everywhere(layout) && apart(&q, slab.bays.x, &p, slab.bays.y, TIMES)
+}
+
+// 32, of a row of panels: p is the row's, and q lie between these ends.
+pub fn unequal(layout: Layout, q: Ends, p: u64) -> bool
+    requires { ⌜ EndsIn q ⌝ }
+    requires { ⌜ InShare p ⌝ }
+    ensures { λ r. ⌜ r ≡ (isEverywhere layout && endsApart 5 q (one p)) ⌝ }
+{
+    is_everywhere(layout) && ends_apart(q, Ends { least: p, most: p }, TIMES)
 }

@@ -70,7 +70,7 @@ fn low_side(s: &[u64; 13], l: u32) -> u64
 }
 
 // α of line l along d, from the spans across it.
-fn line_alpha(f: &[u8], slab: Slab, d: Way, s: &[u64; 13], l: u32) -> u64
+pub fn line_alpha(f: &[u8], slab: Slab, d: Way, s: &[u64; 13], l: u32) -> u64
     requires { ⌜ LineAtHand (now f) slab d (now s) l ⌝ }
     ensures { λ r. ⌜ (r ≡ lineAlpha (now (f .entry)) d l) × (r ≤ 200000000) ⌝ }
 {

@@ -1,0 +1,20 @@
+-- Each callee's equation in turn.
+-- Assumes nothing.
+use borrow.Author.Needs.{needs}
+use Rattle.plan.specs.declared.ways.Way.the-variants.{X, Y}
+use Rattle.places.proofs.AtPlace.{along-of}
+use Rattle.clear.proofs.lines_broken.Statement.{statement}
+use Rattle.clear.proofs.lines_broken.Tie as tie
+
+pub lines-broken-spec : {M : Type 1} → statement M
+lines-broken-spec =
+    tie.close
+    (tie.spec
+    (λ c. search needs)
+    (λ c κs. along-of (c .before .before .pre) X)
+    (λ c. search needs)
+    (λ c κs. along-of (c .before .before .before .before .pre) Y)
+    (λ c κs. search needs)
+    (λ c κs. search needs)
+    (λ c. rw (← c .before .before .before .before .uneven .ensures, ← c .before .before .uneven2 .ensures, ← c .before .either .ensures, c .if1 .taken))
+    (λ c. rw (← c .before .before .before .before .before .uneven .ensures, ← c .before .before .before .uneven2 .ensures, ← c .before .before .either .ensures, c .before .if1 .left) (c .astray .ensures)))
