@@ -20,9 +20,9 @@ pub struct Accepted {
     pub least: Vec<Vec<u32>>,
 }
 
-/// 1 to 7, or 0: a panel query tries these, and every floor has its first panel.
+/// 1 to 7, or 0: "There is no table here, so only 1 to 7 are tried." (02, Four)
 pub fn refusal(file: &[u8]) -> u32 {
-    gandhrumil::panel(file, 0, 0).refusal
+    gandhrumil::clear(file).refusal
 }
 
 /// The moments, those of the table and the governing ones, are dropped unread.
