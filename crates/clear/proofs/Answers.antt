@@ -6,7 +6,6 @@ use mathlib.Core.List.{List}
 use mathlib.Core.Logic.{_↔_}
 use mathlib.Core.Path.{_≡_, refl, sym, _∙_}
 use native.Mathlib.Omega.{arith}
-use lib.Dec.{eqb}
 use Rattle.numbers.specs.Tests.{Says}
 use Rattle.numbers.proofs.Tests.{says-eq, says-as, by-test, by-says}
 use Rattle.numbers.proofs.Chains.{given-one}

@@ -1,4 +1,2 @@
 pub mod Answers
-pub mod Walk
-pub mod Rows
 pub mod Verdict

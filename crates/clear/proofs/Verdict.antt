@@ -1,48 +1,33 @@
 -- The verdict is 0 exactly where no limit answers that it is broken, in whatever order they are asked.
---     clear-is                   all seven
---     by-floor, by-spans         one that is broken is enough
---     surveyed-of, broad-of      what the limits further on ask
---     by-panels                  and the last of them decide
+--     first-tells               what is broken in the first panel is broken
+--     clear-is                  the verdict, by what is asked one after the other
+--     by-floor, by-first, by-lines, by-panels     where that ends
+--     first-at, thin-first      the first panel is there; its least thickness, and the slab's
 -- Assumes nothing.
-use Prim.Native.Nat.{ℕ, _+_, _≤_}
-use mathlib.Core.Bool.{Bool, true, false, not, _||_, false≢true}
+use Prim.Native.Nat.{ℕ}
+use mathlib.Core.Bool.{Bool, true, false, not, _||_, _&&_}
 use mathlib.Core.List.{List}
-use mathlib.Core.Path.{_≡_, refl, sym, ap, _∙_}
+use mathlib.Core.Logic.{_⊎_, ⊎-elim}
+use mathlib.Core.Path.{_≡_, refl, sym, _∙_}
 use native.Mathlib.Omega.{arith}
 use lib.Dec.{ltb, eqb}
-use native.Mathlib.Decide.{decLt}
-use borrow.Author.Tests.{ne-eqb, lt-ltb}
+use borrow.Author.Tests.{ne-eqb}
+use Rattle.numbers.specs.Tests.{some}
+use Rattle.numbers.proofs.Tests.{found, says-and, says-or, says-itself}
 use Rattle.plan.specs.declared.ways.Way.the-variants.{X, Y}
 use Rattle.plan.specs.Plan.{bays}
+use Rattle.layouts.specs.Layouts.{layoutOf}
 use Rattle.floor.specs.Refusal.{refusal}
+use Rattle.floor.proofs.Fair.{fair}
 use Rattle.lines.specs.declared.slab.Slab.{Slab}
+use Rattle.lines.specs.Lines.{isEverywhere, panelThickness}
 use Rattle.lines.specs.Slabs.{slabOf}
 use Rattle.lines.specs.Rows.{AllSpans}
-use Rattle.lines.specs.Asked.{Surveyed}
+use Rattle.lines.specs.Asked.{PanelAtHand}
 use Rattle.lines.proofs.Slabs.{bays-of, loads-of}
-use Rattle.limits.specs.Limits.{somePanel, few, slenderPanel, uneven, astray, overloaded, heavy, unbalanced, thinPanel, bit, sumOf, verdict}
+use Rattle.limits.specs.Limits.{somePair, somePanel, few, slenderPanel, uneven, astray, overloaded, heavy, unequalPanel, unbalanced, thinPanel, sumOf, verdict}
 use Rattle.clear.specs.Answers.{isClear}
-use Rattle.clear.specs.Order.{linesBroken, panelsBroken}
-use Rattle.clear.specs.Asked.{Broad}
-
--- ---- the sum
-
--- none adds to the sum, or one of them does
-sum-clear : (a b c d e g h : Bool) → eqb (sumOf a b c d e g h) 0 ≡ not ((a || e) || (b || ((c || d) || (g || h))))
-unfolding sumOf
-sum-clear true b c d e g h = ne-eqb (sumOf true b c d e g h) 0 (λ z. omega (arith, z))
-sum-clear false b c d true g h = ne-eqb (sumOf false b c d true g h) 0 (λ z. omega (arith, z))
-sum-clear false true c d false g h = ne-eqb (sumOf false true c d false g h) 0 (λ z. omega (arith, z))
-sum-clear false false true d false g h = ne-eqb (sumOf false false true d false g h) 0 (λ z. omega (arith, z))
-sum-clear false false false true false g h = ne-eqb (sumOf false false false true false g h) 0 (λ z. omega (arith, z))
-sum-clear false false false false false true h = ne-eqb (sumOf false false false false false true h) 0 (λ z. omega (arith, z))
-sum-clear false false false false false false true = refl
-sum-clear false false false false false false false = refl
-
-clear-is : (f : List ℕ) → isClear f ≡ not ((few f || heavy f) || (somePanel f (slenderPanel f) || (linesBroken f || panelsBroken f)))
-unfolding verdict
-clear-is f =
-    sum-clear (few f) (somePanel f (slenderPanel f)) (uneven f X || uneven f Y) (astray f) (heavy f) (unbalanced f) (somePanel f (thinPanel f))
+use Rattle.clear.specs.Order.{firstBroken, linesBroken, panelsBroken}
 
 -- ---- either of two
 
@@ -50,30 +35,35 @@ or-true : (b : Bool) → (b || true) ≡ true
 or-true true = refl
 or-true false = refl
 
-or-left : (a b : Bool) → (a || b) ≡ false → a ≡ false
-or-left true b e = e
-or-left false b e = refl
+or-left : {a : Bool} (b : Bool) → a ≡ true → (a || b) ≡ true
+or-left b e = rw e
 
-or-right : (a b : Bool) → (a || b) ≡ false → b ≡ false
-or-right true b e = absurd (false≢true (sym e))
-or-right false b e = e
+or-right : (a : Bool) {b : Bool} → b ≡ true → (a || b) ≡ true
+or-right a e = rw e (or-true a)
 
--- ---- 2
+both-true : {a b : Bool} → a ≡ true → b ≡ true → (a && b) ≡ true
+both-true e h = rw (e, h)
 
-pub by-spans : (f : List ℕ) {s : Bool} → s ≡ somePanel f (slenderPanel f) → s ≡ true → false ≡ isClear f
-by-spans f es t = sym (clear-is f ∙ rw (sym es ∙ t, or-true (few f || heavy f)))
+-- ---- the sum
 
-pub surveyed-of : {f : List ℕ} {slab : Slab} {s : List (List ℕ)} → refusal f ≡ 0 → slab ≡ slabOf f → AllSpans f s → Surveyed f slab s
-surveyed-of e shared spans = record { accepted = e; shared = shared; spans = spans }
+-- none adds to the sum, or one of them does
+sum-clear : (a b c d e g h : Bool) → eqb (sumOf a b c d e g h) 0 ≡ not ((a || e) || ((c || (b || d)) || (g || h)))
+unfolding sumOf
+sum-clear true b c d e g h = ne-eqb (sumOf true b c d e g h) 0 (λ z. omega (arith, z))
+sum-clear false b c d true g h = ne-eqb (sumOf false b c d true g h) 0 (λ z. omega (arith, z))
+sum-clear false b true d false g h = ne-eqb (sumOf false b true d false g h) 0 (λ z. omega (arith, z))
+sum-clear false true false d false g h = ne-eqb (sumOf false true false d false g h) 0 (λ z. omega (arith, z))
+sum-clear false false false true false g h = ne-eqb (sumOf false false false true false g h) 0 (λ z. omega (arith, z))
+sum-clear false false false false false true h = ne-eqb (sumOf false false false false false true h) 0 (λ z. omega (arith, z))
+sum-clear false false false false false false true = refl
+sum-clear false false false false false false false = refl
+
+clear-is : (f : List ℕ) → isClear f ≡ not ((few f || heavy f) || (linesBroken f || panelsBroken f))
+unfolding verdict
+clear-is f =
+    sum-clear (few f) (somePanel f (slenderPanel f)) (uneven f X || uneven f Y) (astray f) (heavy f) (unbalanced f) (somePanel f (thinPanel f))
 
 -- ---- 1 and 16
-
-three : (n : ℕ) → ltb n 3 ≡ false → 3 ≤ n
-three n e =
-    elim (decLt n 3) [
-      | yes h ↦ absurd (false≢true (sym e ∙ lt-ltb n 3 h))
-      | no h ↦ omega (arith, h)
-    ]
 
 module _ (f : List ℕ) {slab : Slab} (shared : slab ≡ slabOf f) {a b r : Bool} (ea : a ≡ (ltb (slab .bays .x) 3 || ltb (slab .bays .y) 3))
     (eb : b ≡ overloaded (slab .dead) (slab .live)) (er : r ≡ (a || b)) where
@@ -84,15 +74,41 @@ module _ (f : List ℕ) {slab : Slab} (shared : slab ≡ slabOf f) {a b r : Bool
   pub by-floor : r ≡ true → false ≡ isClear f
   by-floor t = sym (clear-is f ∙ rw (sym floor-is ∙ t))
 
-  pub broad-of : {s : List (List ℕ)} → r ≡ false → refusal f ≡ 0 → AllSpans f s → Broad f slab s
-  unfolding few
-  broad-of n e spans =
-      let neither = or-left (few f) (heavy f) (sym floor-is ∙ n) in
-      record {
-        surveyed = surveyed-of e shared spans;
-        x-bays = three (bays f X) (or-left (ltb (bays f X) 3) (ltb (bays f Y) 3) neither);
-        y-bays = three (bays f Y) (or-right (ltb (bays f X) 3) (ltb (bays f Y) 3) neither);
-      }
+  pub by-panels : r ≡ false → {l p : Bool} → l ≡ linesBroken f → l ≡ false → p ≡ panelsBroken f → not p ≡ isClear f
+  by-panels n el nl ep = sym (clear-is f ∙ rw (sym floor-is ∙ n, sym el ∙ nl, ← ep))
 
-  pub by-panels : r ≡ false → {s p : Bool} → s ≡ somePanel f (slenderPanel f) → s ≡ false → p ≡ not (linesBroken f || panelsBroken f) → p ≡ isClear f
-  by-panels n es ns ep = ep ∙ sym (clear-is f ∙ rw (sym floor-is ∙ n, sym es ∙ ns))
+-- ---- the first panel
+
+pub thin-first : (f : List ℕ) {slab : Slab} {v : ℕ} → slab ≡ slabOf f → v ≡ panelThickness f 0 0 → ltb (slab .t) v ≡ thinPanel f 0 0
+unfolding thinPanel slabOf
+thin-first f shared e = rw (shared, e)
+
+module _ (f : List ℕ) (e : refusal f ≡ 0) where
+  pub first-at : {slab : Slab} {s : List (List ℕ)} → slab ≡ slabOf f → AllSpans f s → PanelAtHand f slab s 0 0
+  first-at shared spans =
+      let b = fair f e .bays-in in
+      record { surveyed = record { accepted = e; shared = shared; spans = spans }; x-bay = omega (arith, b X); y-bay = omega (arith, b Y) }
+
+  -- some panel has what the first one has
+  some-first : (p : ℕ → ℕ → Bool) → p 0 0 ≡ true → somePanel f p ≡ true
+  unfolding somePair
+  some-first p h =
+      let b = fair f e .bays-in in
+      found true (bays f Y) 0 (λ j. some (bays f X) (λ i. p i j)) (omega (arith, b Y)) (found true (bays f X) 0 (λ i. p i 0) (omega (arith, b X)) h)
+
+  first-tells : firstBroken f ≡ true → (linesBroken f || panelsBroken f) ≡ true
+  unfolding unbalanced
+  first-tells t =
+      let says = says-or (says-or (says-itself (slenderPanel f 0 0)) (says-and (says-itself (isEverywhere (layoutOf f))) (says-itself (unequalPanel f 0 0)))) (says-itself (thinPanel f 0 0)) in
+      ⊎-elim
+      (⊎-elim
+      (λ h. or-left (panelsBroken f) (or-right (uneven f X || uneven f Y) (or-left (astray f) (some-first (slenderPanel f) h))))
+      (λ h. or-right (linesBroken f) (or-left (somePanel f (thinPanel f)) (both-true (h .0) (some-first (unequalPanel f) (h .1))))))
+      (λ h. or-right (linesBroken f) (or-right (unbalanced f) (some-first (thinPanel f) h)))
+      (says .holds t)
+
+  pub by-first : {r : Bool} → r ≡ firstBroken f → r ≡ true → false ≡ isClear f
+  by-first er t = sym (clear-is f ∙ rw (first-tells (sym er ∙ t), or-true (few f || heavy f)))
+
+pub by-lines : (f : List ℕ) {r : Bool} → r ≡ linesBroken f → r ≡ true → false ≡ isClear f
+by-lines f er t = sym (clear-is f ∙ rw (sym er ∙ t, or-true (few f || heavy f)))

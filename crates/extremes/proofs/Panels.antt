@@ -5,15 +5,18 @@
 --     bay-of, shares-of         a bay in range, and p or q of every bay, as they are worked out
 --     slender-is, unequal-is    some pair of values apart is some panel that breaks the limit
 --     beamed, beamless          limit 32, by cases of the layout
+--     spans-at, slender-one     one panel: its spans in range, and limit 2
+--     bay-x, bay-y              its two bays in range, with α of the lines beside them
+--     unequal-one, bare-one     and limit 32, by cases of the layout
 -- Assumes nothing.
 use Prim.Native.Nat.{ℕ, _+_, _*_, _≤_, _<_, zero-le}
-use mathlib.Core.Bool.{Bool, true, false, _||_}
+use mathlib.Core.Bool.{Bool, true, false, _||_, _&&_}
 use mathlib.Core.List.{List}
 use mathlib.Core.Path.{_≡_, refl, sym, _∙_}
 use native.Mathlib.Omega.{arith}
 use lib.Dec.{ltb}
 use lib.ListN.{getD}
-use Rattle.numbers.specs.Extremes.{mostOf, leastOf}
+use Rattle.numbers.specs.Extremes.{mostOf, leastOf, apart}
 use Rattle.numbers.proofs.Bounded.{_⊗_}
 use Rattle.numbers.proofs.Extremes.{apart-ends, apart-extremes, least-within}
 use Rattle.numbers.proofs.Tests.{until-same}
@@ -21,27 +24,28 @@ use Rattle.plan.specs.declared.ways.Way.{Way}
 use Rattle.plan.specs.declared.ways.Way.the-variants.{X, Y}
 use Rattle.plan.specs.Ways.{across}
 use Rattle.plan.specs.Plan.{bays, span, lastLine}
+use Rattle.layouts.specs.Layouts.{layoutOf}
 use Rattle.floor.specs.Refusal.{refusal}
 use Rattle.floor.proofs.Fair.{fair}
 use Rattle.lines.specs.declared.slab.Slab.{Slab}
 use Rattle.lines.specs.Lines.{pairAlpha, isEverywhere}
 use Rattle.lines.specs.Slabs.{slabOf}
 use Rattle.lines.specs.Rows.{Spans, rowOf}
-use Rattle.lines.specs.Asked.{Surveyed, Ready}
+use Rattle.lines.specs.Asked.{Surveyed, Ready, PanelAtHand, AtPanel}
 use Rattle.lines.proofs.Slabs.{laid-of, bays-of}
 use Rattle.lines.proofs.Filled.{Filled, beside, pair-in, pair-is}
 use Rattle.lines.proofs.Floors.{alpha-bound}
 use Rattle.limits.specs.Limits.{somePair, somePanel, slenderPanel, unequalPanel, unbalanced}
 use Rattle.extremes.specs.declared.Ends.{Ends}
 use Rattle.extremes.specs.Extremes.{apartSome, endsOf, endsApart, shareAt, shareOf, Shares}
-use Rattle.extremes.specs.Asked.{Values, EndsIn, BaySharing, Sharing}
+use Rattle.extremes.specs.Asked.{Values, Value, EndsIn, BaySharing, Sharing}
 
 -- the same pairs, with tests that answer the same
 pair-same : (n m : ℕ) (p q : ℕ → ℕ → Bool) → ((i j : ℕ) → i < n → j < m → p i j ≡ q i j) → somePair n m p ≡ somePair n m q
 unfolding somePair
 pair-same n m p q h = until-same true m _ _ (λ j l. until-same true n _ _ (λ i k. h i j k l))
 
-pub or-swap : (a b : Bool) → (a || b) ≡ (b || a)
+or-swap : (a b : Bool) → (a || b) ≡ (b || a)
 or-swap true true = refl
 or-swap true false = refl
 or-swap false true = refl
@@ -156,3 +160,47 @@ module _ {f : List ℕ} {slab : Slab} {s : List (List ℕ)} (known : Surveyed f 
     pub beamless : everywhere ≡ false → everywhere ≡ unbalanced f
     unfolding unbalanced
     beamless t = rw (← laid-of f (known .shared), ← is, t)
+
+-- ---- of one panel
+
+module _ {f : List ℕ} {slab : Slab} {s : List (List ℕ)} {i j : ℕ} (at : PanelAtHand f slab s i j) where
+  span-at : (d : Way) (k : ℕ) → k < bays f d → (getD (rowOf s d) k 0 ≡ span f d k) × (getD (rowOf s d) k 0 ≤ 12000)
+  span-at d k h =
+      let e = at .surveyed .accepted in
+      rw (at .surveyed .spans d .is k (omega (arith, h, fair f e .bays-in d))) (refl, fair f e .span-most d k)
+
+  pub bays-few : (i < 12) × (j < 12)
+  bays-few = (omega (arith, at .x-bay, fair f (at .surveyed .accepted) .bays-in X), omega (arith, at .y-bay, fair f (at .surveyed .accepted) .bays-in Y))
+
+  pub spans-at : Value (getD (rowOf s X) i 0) × Value (getD (rowOf s Y) j 0)
+  spans-at =
+      (record { most = omega (arith, span-at X i (at .x-bay) .1) }, record { most = omega (arith, span-at Y j (at .y-bay) .1) })
+
+  pub slender-one : {r : Bool} → r ≡ apart 2 (getD (rowOf s X) i 0) (getD (rowOf s Y) j 0) → r ≡ slenderPanel f i j
+  unfolding slenderPanel
+  slender-one e =
+      e ∙ rw (span-at X i (at .x-bay) .0, span-at Y j (at .y-bay) .0) (sym (apart-ends 2 (span f X i) (span f Y j) (omega arith)))
+
+module _ {f : List ℕ} {slab : Slab} {s a : List (List ℕ)} {i j : ℕ} (at : AtPanel f slab s a i j) where
+  abbrev accepted : refusal f ≡ 0
+  accepted = at .panel .surveyed .accepted
+
+  pub bay-x : BaySharing (rowOf a X) (rowOf s Y) j
+  bay-x = record { pair = pair-in (at .alphas .x) accepted (at .panel .y-bay); span-most = span-at (at .panel) Y j (at .panel .y-bay) .1 }
+
+  pub bay-y : BaySharing (rowOf a Y) (rowOf s X) i
+  bay-y = record { pair = pair-in (at .alphas .y) accepted (at .panel .x-bay); span-most = span-at (at .panel) X i (at .panel .x-bay) .1 }
+
+  module _ {everywhere : Bool} (is : everywhere ≡ isEverywhere (slab .layout)) where
+    pub unequal-one : {p q : ℕ} {r : Bool} → everywhere ≡ true → p ≡ shareAt (rowOf a X) (rowOf s Y) j → q ≡ shareAt (rowOf a Y) (rowOf s X) i → r ≡ apart 5 q p
+        → r ≡ (isEverywhere (layoutOf f) && unequalPanel f i j)
+    unfolding unequalPanel
+    unequal-one t ep eq er =
+        let x = pairAlpha f X j * (span f Y j * span f Y j) in
+        let y = pairAlpha f Y i * (span f X i * span f X i) in
+        er
+        ∙ rw (ep, eq, pair-is (at .alphas .x), pair-is (at .alphas .y), span-at (at .panel) X i (at .panel .x-bay) .0, span-at (at .panel) Y j (at .panel .y-bay) .0)
+        (rw (← laid-of f (at .panel .surveyed .shared), ← is, t) (or-swap (ltb (5 * x) y) (ltb (5 * y) x)))
+
+    pub bare-one : everywhere ≡ false → everywhere ≡ (isEverywhere (layoutOf f) && unequalPanel f i j)
+    bare-one t = rw (← laid-of f (at .panel .surveyed .shared), ← is, t)

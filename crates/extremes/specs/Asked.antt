@@ -18,13 +18,12 @@ pub record Values (a : List ℕ) (n : ℕ) : Type 0 where
   pub few : n ≤ 13
   pub most : (i : ℕ) → i < n → getD a i 0 ≤ 57600000000000000
 
--- ends of values in range
+-- one value in range, and ends of such
+pub record Value (v : ℕ) : Type 0 where
+  pub most : v ≤ 57600000000000000
+
 pub record EndsIn (e : Ends) : Type 0 where
   pub least : e .least ≤ 57600000000000000
-
--- p or q in range
-pub record InShare (p : ℕ) : Type 0 where
-  pub most : p ≤ 57600000000000000
 
 -- k of limits 2 and 32
 pub record Ratio (k : ℕ) : Type 0 where

@@ -1,6 +1,6 @@
 -- Whether some pair of values of two lists lies far apart: limit 2 asks it of the spans of the two directions, limit 32 of p and q.
 -- Assumes nothing.
-use Prim.Native.Nat.{ℕ, zero, suc, _*_, _<_, min, max}
+use Prim.Native.Nat.{ℕ, _*_, _<_}
 use mathlib.Core.Bool.{Bool, _||_}
 use mathlib.Core.List.{List}
 use mathlib.Core.Path.{_≡_}
@@ -26,22 +26,6 @@ endsOf n v = record { least = leastOf n v; most = mostOf n v }
 -- some value between ends x exceeds k times some value between ends y, or the other way round
 abbrev pub endsApart : ℕ → Ends → Ends → Bool
 endsApart k x y = ltb (k * y .least) (x .most) || ltb (k * x .least) (y .most)
-
--- the ends of a single value
-abbrev pub one : ℕ → Ends
-one v = record { least = v; most = v }
-
--- ends that widen value by value; those of none lie past every p and q, so that the first value is both
-abbrev pub noEnds : Ends
-noEnds = record { least = 57600000000000000; most = 0 }
-
-abbrev pub widen : Ends → ℕ → Ends
-widen e v = record { least = min (e .least) v; most = max (e .most) v }
-
--- of the values at the numbers below n
-unfoldable pub spread : ℕ → (ℕ → ℕ) → Ends
-spread zero v = noEnds
-spread (suc n) v = widen (spread n v) (v n)
 
 -- p, or q, of bay k as it is worked out of what is at hand
 abbrev pub shareAt : List ℕ → List ℕ → ℕ → ℕ

@@ -1,15 +1,17 @@
-// The limits over all panels at once, by the extremes of the two directions: 2 of the spans, 32 of p and q.
+// The limits over all panels at once, by the extremes of the two directions: 2 of the spans, 32 of p and q. And the same limits of one panel, whose
+// extremes are its own numbers.
 // Some number of one list exceeds k times some number of another exactly where the largest of the one exceeds k times the least of the other.
 ghost use mathlib.Core.Path.{_≡_};
+ghost use mathlib.Core.Bool.{_&&_};
 ghost use Prim.Native.Nat.{_*_, _≤_};
 ghost use lib.ListN.{getD};
-ghost use Rattle.lines.specs.Asked.{Surveyed, Ready};
-ghost use mathlib.Core.Bool.{_&&_};
+ghost use Rattle.layouts.specs.Layouts.{layoutOf};
 ghost use Rattle.lines.specs.Lines.{isEverywhere};
-ghost use Rattle.limits.specs.Limits.{somePanel, slenderPanel, unbalanced};
-ghost use Rattle.extremes.specs.Extremes.{noEnds, widen, endsOf, endsApart, apartSome, one, shareAt, Shares};
-ghost use Rattle.extremes.specs.Asked.{Values, EndsIn, Ratio, Share, InShare, BaySharing, Sharing};
-use layouts::Layout;
+ghost use Rattle.lines.specs.Asked.{Surveyed, Ready, PanelAtHand, AtPanel};
+ghost use Rattle.limits.specs.Limits.{somePanel, slenderPanel, unequalPanel, unbalanced};
+ghost use Rattle.numbers.specs.Extremes.{apart};
+ghost use Rattle.extremes.specs.Extremes.{endsOf, endsApart, apartSome, shareAt, Shares};
+ghost use Rattle.extremes.specs.Asked.{Values, Value, EndsIn, Ratio, Share, BaySharing, Sharing};
 use lines::line::X;
 use lines::line::Y;
 use lines::line::pair_alpha;
@@ -20,32 +22,15 @@ use numbers::larger;
 use numbers::smaller;
 use plan::ways::Way;
 
-// 32: "p > 5q or q > 5p".
-const TIMES: u64 = 5;
+// 2: "longer span > 2·shorter"; 32: "p > 5q or q > 5p".
+const TWICE: u64 = 2;
+
+const FIVE_TIMES: u64 = 5;
 
 // The least and the most of some values.
-pub struct Ends {
-    pub least: u64,
-    pub most: u64,
-}
-
-// Of none yet: the first value to join is both.
-pub fn no_ends() -> Ends
-    ensures { λ r. ⌜ r ≡ noEnds ⌝ }
-{
-    Ends {
-        least: 57600000000000000,
-        most: 0,
-    }
-}
-
-pub fn widened(e: Ends, v: u64) -> Ends
-    ensures { λ r. ⌜ r ≡ widen e v ⌝ }
-{
-    Ends {
-        least: smaller(e.least, v),
-        most: larger(e.most, v),
-    }
+struct Ends {
+    least: u64,
+    most: u64,
 }
 
 // Of the first n.
@@ -74,6 +59,16 @@ fn ends_apart(x: Ends, y: Ends, k: u64) -> bool
     either(k * y.least < x.most, k * x.least < y.most)
 }
 
+// Of two values.
+fn two_apart(x: u64, y: u64, k: u64) -> bool
+    requires { ⌜ Value x ⌝ }
+    requires { ⌜ Value y ⌝ }
+    requires { ⌜ Ratio k ⌝ }
+    ensures { λ r. ⌜ r ≡ apart k x y ⌝ }
+{
+    ends_apart(Ends { least: x, most: x }, Ends { least: y, most: y }, k)
+}
+
 // Is there a pair, one of a's first n and one of b's first m, in which one exceeds k times the other?
 fn apart(a: &[u64; 13], n: u32, b: &[u64; 13], m: u32, k: u64) -> bool
     requires { ⌜ Values (now a) n ⌝ }
@@ -89,7 +84,17 @@ pub fn slender(f: &[u8], slab: Slab, spans: &[[u64; 13]; 2]) -> bool
     requires { ⌜ Surveyed (now f) slab (now spans) ⌝ }
     ensures { λ r. ⌜ r ≡ somePanel (now (f .entry)) (slenderPanel (now (f .entry))) ⌝ }
 {
-    apart(&spans[X], slab.bays.x, &spans[Y], slab.bays.y, 2)
+    apart(&spans[X], slab.bays.x, &spans[Y], slab.bays.y, TWICE)
+}
+
+// 2, of one panel.
+pub fn slender_at(f: &[u8], slab: Slab, spans: &[[u64; 13]; 2], i: u32, j: u32) -> bool
+    requires { ⌜ PanelAtHand (now f) slab (now spans) i j ⌝ }
+    ensures { λ r. ⌜ r ≡ slenderPanel (now (f .entry)) i j ⌝ }
+{
+    let k = i as usize;
+    let m = j as usize;
+    two_apart(spans[X][k], spans[Y][m], TWICE)
 }
 
 // p or q of one bay.
@@ -101,7 +106,7 @@ fn share(pair: u64, span: u64) -> u64
 }
 
 // Of bay k, from α of the lines on either side of it.
-pub fn share_at(a: &[u64; 13], s: &[u64; 13], k: u32) -> u64
+fn share_at(a: &[u64; 13], s: &[u64; 13], k: u32) -> u64
     requires { ⌜ BaySharing (now a) (now s) k ⌝ }
     ensures { λ r. ⌜ (r ≡ shareAt (now (a .entry)) (now (s .entry)) k) × (r ≤ 57600000000000000) ⌝ }
 {
@@ -131,14 +136,23 @@ pub fn unbalanced(f: &[u8], slab: Slab, spans: &[[u64; 13]; 2], alphas: &[[u64; 
     let layout = slab.layout;
     let p = shares(f, Way::X, &alphas[X], &spans[Y], slab.bays.y);
     let q = shares(f, Way::Y, &alphas[Y], &spans[X], slab.bays.x);
-    is_everywhere(layout) && apart(&q, slab.bays.x, &p, slab.bays.y, TIMES)
+    is_everywhere(layout) && apart(&q, slab.bays.x, &p, slab.bays.y, FIVE_TIMES)
 }
 
-// 32, of a row of panels: p is the row's, and q lie between these ends.
-pub fn unequal(layout: Layout, q: Ends, p: u64) -> bool
-    requires { ⌜ EndsIn q ⌝ }
-    requires { ⌜ InShare p ⌝ }
-    ensures { λ r. ⌜ r ≡ (isEverywhere layout && endsApart 5 q (one p)) ⌝ }
+// 32, of one panel with α of its four lines.
+pub fn unequal_at(
+    f: &[u8],
+    slab: Slab,
+    spans: &[[u64; 13]; 2],
+    alphas: &[[u64; 13]; 2],
+    i: u32,
+    j: u32,
+) -> bool
+    requires { ⌜ AtPanel (now f) slab (now spans) (now alphas) i j ⌝ }
+    ensures { λ r. ⌜ r ≡ (isEverywhere (layoutOf (now (f .entry))) && unequalPanel (now (f .entry)) i j) ⌝ }
 {
-    is_everywhere(layout) && ends_apart(q, Ends { least: p, most: p }, TIMES)
+    let layout = slab.layout;
+    let p = share_at(&alphas[X], &spans[Y], j);
+    let q = share_at(&alphas[Y], &spans[X], i);
+    is_everywhere(layout) && two_apart(q, p, FIVE_TIMES)
 }

@@ -1,4 +1,4 @@
--- Each callee's equation in turn.
+-- Each callee's equation in turn, by cases.
 -- Assumes nothing.
 use borrow.Author.Needs.{needs}
 use Rattle.plan.specs.declared.ways.Way.the-variants.{X, Y}
@@ -15,6 +15,8 @@ lines-broken-spec =
     (λ c. search needs)
     (λ c κs. along-of (c .before .before .before .before .pre) Y)
     (λ c κs. search needs)
-    (λ c κs. search needs)
     (λ c. rw (← c .before .before .before .before .uneven .ensures, ← c .before .before .uneven2 .ensures, ← c .before .either .ensures, c .if1 .taken))
-    (λ c. rw (← c .before .before .before .before .before .uneven .ensures, ← c .before .before .before .uneven2 .ensures, ← c .before .before .either .ensures, c .before .if1 .left) (c .astray .ensures)))
+    (λ c κs. search needs)
+    (λ c κs. search needs)
+    (λ c. rw (← c .before .before .before .before .before .before .uneven .ensures, ← c .before .before .before .before .uneven2 .ensures, ← c .before .before .before .either .ensures, c .before .before .if1 .left, ← c .before .slender .ensures, c .if2 .taken))
+    (λ c. rw (← c .before .before .before .before .before .before .before .uneven .ensures, ← c .before .before .before .before .before .uneven2 .ensures, ← c .before .before .before .before .either .ensures, c .before .before .before .if1 .left, ← c .before .before .slender .ensures, c .before .if2 .left) (c .astray .ensures)))

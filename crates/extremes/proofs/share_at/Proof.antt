@@ -1,6 +1,5 @@
 -- The two α beside the bay, and its span, are in range.
 -- Assumes nothing.
-use native.Mathlib.Omega.{arith}
 use borrow.Author.Needs.{needs}
 use Rattle.extremes.proofs.share_at.Statement.{statement}
 use Rattle.extremes.proofs.share_at.Tie as tie
