@@ -73,8 +73,9 @@ gandhrumil_answer gandhrumil_change(uint8_t *floor, size_t floor_len, uint32_t *
  * 0.80 times as stiff as its slab makes the panels along that line ask for more. Tries 1 to 7, then 10; 0 where refused. */
 gandhrumil_answer gandhrumil_panel(const uint8_t *floor, size_t floor_len, uint64_t x, uint64_t y);
 
-/* Whether the floor is clear: value 1 is yes, 0 is no. Yes exactly where gandhrumil_open, with room for what it writes, gives verdict 0; it
- * stops at the first broken limit. Tries 1 to 7; a refused floor answers no with its number. Nothing is lent, and nothing is written. */
+/* Whether the floor is clear: value 1 is yes, 0 is no. Yes exactly where gandhrumil_open, with room for what it writes, gives verdict 0. This
+ * call stops at the first broken limit, and does not say which it is. Tries 1 to 7; a refused floor answers no, with its number. No table is
+ * lent, and nothing is written. */
 gandhrumil_answer gandhrumil_clear(const uint8_t *floor, size_t floor_len);
 
 /* The least whole area of steel in mm2 for the moment m, 0 to 2,000,000,000 N.cm, on a width b, 1 to 12,000 mm, of a slab of thickness t, 90 to

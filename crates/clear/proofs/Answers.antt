@@ -16,7 +16,7 @@ use Rattle.limits.specs.Meaning.{Clear}
 use Rattle.limits.proofs.Meaning.{broken, clear-is}
 use Rattle.answers.specs.declared.Answer.{Answer}
 use Rattle.answers.proofs.Answers.{same-answer}
-use Rattle.clear.specs.Answers.{isClear, yesNo, clearOf, Stands, ClearAnswer}
+use Rattle.clear.specs.Answers.{isClear, yesNo, clearOf, AcceptedAndClear, ClearAnswer}
 
 -- on an accepted floor the test says that no limit is broken
 pub says-clear : (f : List ℕ) → refusal f ≡ 0 → Says (isClear f) (Clear f)
@@ -35,7 +35,7 @@ module _ (f : List ℕ) where
   clear-answer =
       by-test (ClearAnswer f) (says-eq (refusal f) 0)
       (λ z. let g = given 0 f .0 z in
-      let s = yes-says {Q = Stands f} (says-clear f z) (λ c. (g, c)) (λ c. c .1) in
+      let s = yes-says {Q = AcceptedAndClear f} (says-clear f z) (λ c. (g, c)) (λ c. c .1) in
       record { given = g; is-yes = s .0; is-no = s .1 })
       (λ n. record {
         given = given (refusal f) f .0 refl;
@@ -47,4 +47,4 @@ module _ (f : List ℕ) where
   clear-answer-one {a} {b} p q =
       same-answer a b (given-one (floorChecks f) (p .given) (q .given))
       (by-says (says-eq (a .value) 1) (λ e. e ∙ sym (q .is-yes .1 (p .is-yes .0 e)))
-      (λ n. let no : ¬ Stands f = λ s. n (p .is-yes .1 s) in p .is-no .1 no ∙ sym (q .is-no .1 no)))
+      (λ n. let no : ¬ AcceptedAndClear f = λ s. n (p .is-yes .1 s) in p .is-no .1 no ∙ sym (q .is-no .1 no)))

@@ -1,13 +1,13 @@
 -- The verdict is 0 exactly where no limit answers that it is broken, in whatever order they are asked.
 --     first-tells               what is broken in the first panel is broken
---     clear-is                  the verdict, by what is asked one after the other
+--     clear-by-limits                  the verdict, by what is asked one after the other
 --     by-floor, by-first, by-lines, by-panels     where that ends
 --     first-at, thin-first      the first panel is there; its least thickness, and the slab's
 -- Assumes nothing.
 use Prim.Native.Nat.{ℕ}
 use mathlib.Core.Bool.{Bool, true, false, not, _||_, _&&_}
 use mathlib.Core.List.{List}
-use mathlib.Core.Logic.{_⊎_, ⊎-elim}
+use mathlib.Core.Logic.{⊎-elim}
 use mathlib.Core.Path.{_≡_, refl, sym, _∙_}
 use native.Mathlib.Omega.{arith}
 use lib.Dec.{ltb, eqb}
@@ -24,10 +24,10 @@ use Rattle.lines.specs.Lines.{isEverywhere, panelThickness}
 use Rattle.lines.specs.Slabs.{slabOf}
 use Rattle.lines.specs.Rows.{AllSpans}
 use Rattle.lines.specs.Asked.{PanelAtHand}
-use Rattle.lines.proofs.Slabs.{bays-of, loads-of}
+use Rattle.verdict.proofs.Sum.{few-is, heavy-is}
 use Rattle.limits.specs.Limits.{somePair, somePanel, few, slenderPanel, uneven, astray, overloaded, heavy, unequalPanel, unbalanced, thinPanel, sumOf, verdict}
 use Rattle.clear.specs.Answers.{isClear}
-use Rattle.clear.specs.Order.{firstBroken, linesBroken, panelsBroken}
+use Rattle.clear.specs.Order.{firstPanelBroken, brokenWithoutAlpha, panelsBroken}
 
 -- ---- either of two
 
@@ -58,9 +58,9 @@ sum-clear false false false false false true h = ne-eqb (sumOf false false false
 sum-clear false false false false false false true = refl
 sum-clear false false false false false false false = refl
 
-clear-is : (f : List ℕ) → isClear f ≡ not ((few f || heavy f) || (linesBroken f || panelsBroken f))
+clear-by-limits : (f : List ℕ) → isClear f ≡ not ((few f || heavy f) || (brokenWithoutAlpha f || panelsBroken f))
 unfolding verdict
-clear-is f =
+clear-by-limits f =
     sum-clear (few f) (somePanel f (slenderPanel f)) (uneven f X || uneven f Y) (astray f) (heavy f) (unbalanced f) (somePanel f (thinPanel f))
 
 -- ---- 1 and 16
@@ -68,14 +68,13 @@ clear-is f =
 module _ (f : List ℕ) {slab : Slab} (shared : slab ≡ slabOf f) {a b r : Bool} (ea : a ≡ (ltb (slab .bays .x) 3 || ltb (slab .bays .y) 3))
     (eb : b ≡ overloaded (slab .dead) (slab .live)) (er : r ≡ (a || b)) where
   floor-is : r ≡ (few f || heavy f)
-  unfolding few heavy
-  floor-is = er ∙ rw (ea, eb, bays-of f shared X .0, bays-of f shared Y .0, loads-of f shared .0, loads-of f shared .1)
+  floor-is = er ∙ rw (few-is f shared ea, heavy-is f shared eb)
 
   pub by-floor : r ≡ true → false ≡ isClear f
-  by-floor t = sym (clear-is f ∙ rw (sym floor-is ∙ t))
+  by-floor t = sym (clear-by-limits f ∙ rw (sym floor-is ∙ t))
 
-  pub by-panels : r ≡ false → {l p : Bool} → l ≡ linesBroken f → l ≡ false → p ≡ panelsBroken f → not p ≡ isClear f
-  by-panels n el nl ep = sym (clear-is f ∙ rw (sym floor-is ∙ n, sym el ∙ nl, ← ep))
+  pub by-panels : r ≡ false → {l p : Bool} → l ≡ brokenWithoutAlpha f → l ≡ false → p ≡ panelsBroken f → not p ≡ isClear f
+  by-panels n el nl ep = sym (clear-by-limits f ∙ rw (sym floor-is ∙ n, sym el ∙ nl, ← ep))
 
 -- ---- the first panel
 
@@ -96,19 +95,19 @@ module _ (f : List ℕ) (e : refusal f ≡ 0) where
       let b = fair f e .bays-in in
       found true (bays f Y) 0 (λ j. some (bays f X) (λ i. p i j)) (omega (arith, b Y)) (found true (bays f X) 0 (λ i. p i 0) (omega (arith, b X)) h)
 
-  first-tells : firstBroken f ≡ true → (linesBroken f || panelsBroken f) ≡ true
+  first-tells : firstPanelBroken f ≡ true → (brokenWithoutAlpha f || panelsBroken f) ≡ true
   unfolding unbalanced
   first-tells t =
       let says = says-or (says-or (says-itself (slenderPanel f 0 0)) (says-and (says-itself (isEverywhere (layoutOf f))) (says-itself (unequalPanel f 0 0)))) (says-itself (thinPanel f 0 0)) in
       ⊎-elim
       (⊎-elim
       (λ h. or-left (panelsBroken f) (or-right (uneven f X || uneven f Y) (or-left (astray f) (some-first (slenderPanel f) h))))
-      (λ h. or-right (linesBroken f) (or-left (somePanel f (thinPanel f)) (both-true (h .0) (some-first (unequalPanel f) (h .1))))))
-      (λ h. or-right (linesBroken f) (or-right (unbalanced f) (some-first (thinPanel f) h)))
+      (λ h. or-right (brokenWithoutAlpha f) (or-left (somePanel f (thinPanel f)) (both-true (h .0) (some-first (unequalPanel f) (h .1))))))
+      (λ h. or-right (brokenWithoutAlpha f) (or-right (unbalanced f) (some-first (thinPanel f) h)))
       (says .holds t)
 
-  pub by-first : {r : Bool} → r ≡ firstBroken f → r ≡ true → false ≡ isClear f
-  by-first er t = sym (clear-is f ∙ rw (first-tells (sym er ∙ t), or-true (few f || heavy f)))
+  pub by-first : {r : Bool} → r ≡ firstPanelBroken f → r ≡ true → false ≡ isClear f
+  by-first er t = sym (clear-by-limits f ∙ rw (first-tells (sym er ∙ t), or-true (few f || heavy f)))
 
-pub by-lines : (f : List ℕ) {r : Bool} → r ≡ linesBroken f → r ≡ true → false ≡ isClear f
-by-lines f er t = sym (clear-is f ∙ rw (sym er ∙ t, or-true (few f || heavy f)))
+pub by-lines : (f : List ℕ) {r : Bool} → r ≡ brokenWithoutAlpha f → r ≡ true → false ≡ isClear f
+by-lines f er t = sym (clear-by-limits f ∙ rw (sym er ∙ t, or-true (few f || heavy f)))

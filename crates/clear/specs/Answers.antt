@@ -3,7 +3,7 @@
 -- That `clearOf` is the answer that `ClearAnswer` describes, and the only one, is proved in proofs/Answers.
 -- Assumes nothing.
 use Prim.Native.Nat.{ℕ}
-use mathlib.Core.Bool.{Bool, cond}
+use mathlib.Core.Bool.{Bool, false, cond}
 use mathlib.Core.List.{List}
 use mathlib.Core.Logic.{_↔_}
 use mathlib.Core.Path.{_≡_}
@@ -24,13 +24,14 @@ yesNo b = cond b 1 0
 
 -- "a refused floor answers no with its number"
 unfoldable pub clearOf : List ℕ → Answer
-clearOf f = cond (eqb (refusal f) 0) (answer 0 (yesNo (isClear f))) (answer (refusal f) 0)
+clearOf f = cond (eqb (refusal f) 0) (answer 0 (yesNo (isClear f))) (answer (refusal f) (yesNo false))
 
 -- an accepted floor on which no limit is broken
-abbrev pub Stands : List ℕ → Type 0
-Stands f = Given 0 f × Clear f
+abbrev pub AcceptedAndClear : List ℕ → Type 0
+AcceptedAndClear f = Given 0 f × Clear f
 
+-- the answer, by statements: the floor's own number, and 1 exactly where it is accepted and clear
 pub record ClearAnswer (f : List ℕ) (a : Answer) : Type 0 where
   pub given : Given (a .refusal) f
-  pub is-yes : (a .value ≡ 1) ↔ Stands f
-  pub is-no : (a .value ≡ 0) ↔ ¬ Stands f
+  pub is-yes : (a .value ≡ 1) ↔ AcceptedAndClear f
+  pub is-no : (a .value ≡ 0) ↔ ¬ AcceptedAndClear f

@@ -2,20 +2,19 @@
 -- themselves are those of the verdict.
 -- Assumes nothing.
 use Prim.Native.Nat.{ℕ}
-use mathlib.Core.Bool.{Bool, _||_, _&&_}
+use mathlib.Core.Bool.{Bool, _||_}
 use mathlib.Core.List.{List}
 use Rattle.plan.specs.declared.ways.Way.the-variants.{X, Y}
-use Rattle.layouts.specs.Layouts.{layoutOf}
-use Rattle.lines.specs.Lines.{isEverywhere}
-use Rattle.limits.specs.Limits.{somePanel, slenderPanel, uneven, astray, unequalPanel, unbalanced, thinPanel}
+use Rattle.limits.specs.Limits.{somePanel, slenderPanel, uneven, astray, unbalanced, thinPanel}
+use Rattle.extremes.specs.Extremes.{unbalancedPanel}
 
 -- 2, 32 and 64 in the first panel
-abbrev pub firstBroken : List ℕ → Bool
-firstBroken f = (slenderPanel f 0 0 || (isEverywhere (layoutOf f) && unequalPanel f 0 0)) || thinPanel f 0 0
+abbrev pub firstPanelBroken : List ℕ → Bool
+firstPanelBroken f = (slenderPanel f 0 0 || unbalancedPanel f 0 0) || thinPanel f 0 0
 
 -- 4, 2 and 8
-abbrev pub linesBroken : List ℕ → Bool
-linesBroken f = (uneven f X || uneven f Y) || (somePanel f (slenderPanel f) || astray f)
+abbrev pub brokenWithoutAlpha : List ℕ → Bool
+brokenWithoutAlpha f = (uneven f X || uneven f Y) || (somePanel f (slenderPanel f) || astray f)
 
 -- 32 and 64
 abbrev pub panelsBroken : List ℕ → Bool

@@ -1,9 +1,10 @@
-// Whether a floor is clear: a yes or no that stops at the first broken limit (02, Four). Each limit is asked by the verdict's own leaf.
+// Whether a floor is clear: a yes or no that stops at the first broken limit (02, Four). Every limit's test is one that the verdict or the panel
+// query uses too.
 ghost use mathlib.Core.Path.{_≡_};
 ghost use Rattle.floor.specs.Asked.{Accepted};
-ghost use Rattle.lines.specs.Asked.{Surveyed, AtPanel, NearFirst};
+ghost use Rattle.lines.specs.Asked.{Surveyed, AtPanel, FirstPanelAlphas};
 ghost use Rattle.clear.specs.Answers.{isClear, yesNo, clearOf};
-ghost use Rattle.clear.specs.Order.{firstBroken, linesBroken, panelsBroken};
+ghost use Rattle.clear.specs.Order.{firstPanelBroken, brokenWithoutAlpha, panelsBroken};
 use answers::Answer;
 use answers::refused_query;
 use answers::success;
@@ -15,8 +16,8 @@ use limits::few;
 use limits::heavy;
 use lines::line::X;
 use lines::line::Y;
-use lines::line::other_alphas;
 use lines::line::panel_alphas;
+use lines::line::remaining_alphas;
 use lines::line::spans;
 use lines::panel::panel_thickness;
 use lines::slab::Slab;
@@ -28,9 +29,9 @@ use places::uneven;
 use plan::ways::Way;
 
 // 2, 32 and 64 of the first panel, from its own four lines.
-fn first_broken(f: &[u8], slab: Slab, spans: &[[u64; 13]; 2], near: &[[u64; 13]; 2]) -> bool
+fn first_panel_broken(f: &[u8], slab: Slab, spans: &[[u64; 13]; 2], near: &[[u64; 13]; 2]) -> bool
     requires { ⌜ AtPanel (now f) slab (now spans) (now near) 0 0 ⌝ }
-    ensures { λ r. ⌜ r ≡ firstBroken (now (f .entry)) ⌝ }
+    ensures { λ r. ⌜ r ≡ firstPanelBroken (now (f .entry)) ⌝ }
 {
     let long = slender_at(f, slab, spans, 0, 0);
     if either(long, unequal_at(f, slab, spans, near, 0, 0)) {
@@ -39,10 +40,10 @@ fn first_broken(f: &[u8], slab: Slab, spans: &[[u64; 13]; 2], near: &[[u64; 13];
     (slab.t as u64) < panel_thickness(f, slab, spans, near, 0, 0)
 }
 
-// 2, 4 and 8, which ask for no α.
-fn lines_broken(f: &[u8], slab: Slab, spans: &[[u64; 13]; 2]) -> bool
+// 4, 2 and 8, which need no α.
+fn broken_without_alpha(f: &[u8], slab: Slab, spans: &[[u64; 13]; 2]) -> bool
     requires { ⌜ Surveyed (now f) slab (now spans) ⌝ }
-    ensures { λ r. ⌜ r ≡ linesBroken (now (f .entry)) ⌝ }
+    ensures { λ r. ⌜ r ≡ brokenWithoutAlpha (now (f .entry)) ⌝ }
 {
     let x = uneven(f, Way::X, &spans[X], slab.bays.x);
     let y = uneven(f, Way::Y, &spans[Y], slab.bays.y);
@@ -52,17 +53,17 @@ fn lines_broken(f: &[u8], slab: Slab, spans: &[[u64; 13]; 2]) -> bool
     slender(f, slab, spans) || astray(f, slab, spans)
 }
 
-// 32 and 64, which ask for α of every line. That of the four around the first panel is at hand.
+// 32 and 64, which need α of every line. That of the four around the first panel is at hand.
 fn panels_broken(f: &[u8], slab: Slab, spans: &[[u64; 13]; 2], near: &[[u64; 13]; 2]) -> bool
-    requires { ⌜ NearFirst (now f) slab (now spans) (now near) ⌝ }
+    requires { ⌜ FirstPanelAlphas (now f) slab (now spans) (now near) ⌝ }
     ensures { λ r. ⌜ r ≡ panelsBroken (now (f .entry)) ⌝ }
 {
-    let a = other_alphas(f, slab, spans, near);
+    let a = remaining_alphas(f, slab, spans, near);
     unbalanced(f, slab, spans, &a) || thin(f, slab, spans, &a)
 }
 
 // What takes the least time is asked first. The first panel comes before all that goes over the whole floor.
-fn stands(f: &[u8]) -> bool
+fn is_clear(f: &[u8]) -> bool
     requires { ⌜ Accepted (now f) ⌝ }
     ensures { λ r. ⌜ r ≡ isClear (now (f .entry)) ⌝ }
 {
@@ -72,10 +73,10 @@ fn stands(f: &[u8]) -> bool
     }
     let s = spans(f, slab.bays);
     let near = panel_alphas(f, slab, &s, 0, 0);
-    if first_broken(f, slab, &s, &near) {
+    if first_panel_broken(f, slab, &s, &near) {
         return false;
     }
-    if lines_broken(f, slab, &s) {
+    if broken_without_alpha(f, slab, &s) {
         return false;
     }
     !panels_broken(f, slab, &s, &near)
@@ -95,5 +96,5 @@ pub fn clear(f: &[u8]) -> Answer
     if number != 0 {
         return refused_query(number);
     }
-    success(yes_no(stands(f)))
+    success(yes_no(is_clear(f)))
 }

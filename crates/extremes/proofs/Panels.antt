@@ -10,7 +10,7 @@
 --     unequal-one, bare-one     and limit 32, by cases of the layout
 -- Assumes nothing.
 use Prim.Native.Nat.{ℕ, _+_, _*_, _≤_, _<_, zero-le}
-use mathlib.Core.Bool.{Bool, true, false, _||_, _&&_}
+use mathlib.Core.Bool.{Bool, true, false, _||_}
 use mathlib.Core.List.{List}
 use mathlib.Core.Path.{_≡_, refl, sym, _∙_}
 use native.Mathlib.Omega.{arith}
@@ -24,7 +24,6 @@ use Rattle.plan.specs.declared.ways.Way.{Way}
 use Rattle.plan.specs.declared.ways.Way.the-variants.{X, Y}
 use Rattle.plan.specs.Ways.{across}
 use Rattle.plan.specs.Plan.{bays, span, lastLine}
-use Rattle.layouts.specs.Layouts.{layoutOf}
 use Rattle.floor.specs.Refusal.{refusal}
 use Rattle.floor.proofs.Fair.{fair}
 use Rattle.lines.specs.declared.slab.Slab.{Slab}
@@ -37,7 +36,7 @@ use Rattle.lines.proofs.Filled.{Filled, beside, pair-in, pair-is}
 use Rattle.lines.proofs.Floors.{alpha-bound}
 use Rattle.limits.specs.Limits.{somePair, somePanel, slenderPanel, unequalPanel, unbalanced}
 use Rattle.extremes.specs.declared.Ends.{Ends}
-use Rattle.extremes.specs.Extremes.{apartSome, endsOf, endsApart, shareAt, shareOf, Shares}
+use Rattle.extremes.specs.Extremes.{apartSome, endsOf, endsApart, unbalancedPanel, shareAt, shareOf, Shares}
 use Rattle.extremes.specs.Asked.{Values, Value, EndsIn, BaySharing, Sharing}
 
 -- the same pairs, with tests that answer the same
@@ -169,9 +168,6 @@ module _ {f : List ℕ} {slab : Slab} {s : List (List ℕ)} {i j : ℕ} (at : Pa
       let e = at .surveyed .accepted in
       rw (at .surveyed .spans d .is k (omega (arith, h, fair f e .bays-in d))) (refl, fair f e .span-most d k)
 
-  pub bays-few : (i < 12) × (j < 12)
-  bays-few = (omega (arith, at .x-bay, fair f (at .surveyed .accepted) .bays-in X), omega (arith, at .y-bay, fair f (at .surveyed .accepted) .bays-in Y))
-
   pub spans-at : Value (getD (rowOf s X) i 0) × Value (getD (rowOf s Y) j 0)
   spans-at =
       (record { most = omega (arith, span-at X i (at .x-bay) .1) }, record { most = omega (arith, span-at Y j (at .y-bay) .1) })
@@ -193,7 +189,7 @@ module _ {f : List ℕ} {slab : Slab} {s a : List (List ℕ)} {i j : ℕ} (at : 
 
   module _ {everywhere : Bool} (is : everywhere ≡ isEverywhere (slab .layout)) where
     pub unequal-one : {p q : ℕ} {r : Bool} → everywhere ≡ true → p ≡ shareAt (rowOf a X) (rowOf s Y) j → q ≡ shareAt (rowOf a Y) (rowOf s X) i → r ≡ apart 5 q p
-        → r ≡ (isEverywhere (layoutOf f) && unequalPanel f i j)
+        → r ≡ unbalancedPanel f i j
     unfolding unequalPanel
     unequal-one t ep eq er =
         let x = pairAlpha f X j * (span f Y j * span f Y j) in
@@ -202,5 +198,5 @@ module _ {f : List ℕ} {slab : Slab} {s a : List (List ℕ)} {i j : ℕ} (at : 
         ∙ rw (ep, eq, pair-is (at .alphas .x), pair-is (at .alphas .y), span-at (at .panel) X i (at .panel .x-bay) .0, span-at (at .panel) Y j (at .panel .y-bay) .0)
         (rw (← laid-of f (at .panel .surveyed .shared), ← is, t) (or-swap (ltb (5 * x) y) (ltb (5 * y) x)))
 
-    pub bare-one : everywhere ≡ false → everywhere ≡ (isEverywhere (layoutOf f) && unequalPanel f i j)
+    pub bare-one : everywhere ≡ false → everywhere ≡ unbalancedPanel f i j
     bare-one t = rw (← laid-of f (at .panel .surveyed .shared), ← is, t)

@@ -2,15 +2,12 @@
 // extremes are its own numbers.
 // Some number of one list exceeds k times some number of another exactly where the largest of the one exceeds k times the least of the other.
 ghost use mathlib.Core.Path.{_≡_};
-ghost use mathlib.Core.Bool.{_&&_};
 ghost use Prim.Native.Nat.{_*_, _≤_};
 ghost use lib.ListN.{getD};
-ghost use Rattle.layouts.specs.Layouts.{layoutOf};
-ghost use Rattle.lines.specs.Lines.{isEverywhere};
 ghost use Rattle.lines.specs.Asked.{Surveyed, Ready, PanelAtHand, AtPanel};
-ghost use Rattle.limits.specs.Limits.{somePanel, slenderPanel, unequalPanel, unbalanced};
+ghost use Rattle.limits.specs.Limits.{somePanel, slenderPanel, unbalanced};
 ghost use Rattle.numbers.specs.Extremes.{apart};
-ghost use Rattle.extremes.specs.Extremes.{endsOf, endsApart, apartSome, shareAt, Shares};
+ghost use Rattle.extremes.specs.Extremes.{endsOf, endsApart, apartSome, unbalancedPanel, shareAt, Shares};
 ghost use Rattle.extremes.specs.Asked.{Values, Value, EndsIn, Ratio, Share, BaySharing, Sharing};
 use lines::line::X;
 use lines::line::Y;
@@ -49,7 +46,7 @@ fn ends_of(a: &[u64; 13], n: u32) -> Ends
     Ends { least, most }
 }
 
-// Does some value between the one ends exceed k times some value between the other?
+// Does some value between ends x exceed k times some value between ends y, or the other way round?
 fn ends_apart(x: Ends, y: Ends, k: u64) -> bool
     requires { ⌜ EndsIn x ⌝ }
     requires { ⌜ EndsIn y ⌝ }
@@ -149,7 +146,7 @@ pub fn unequal_at(
     j: u32,
 ) -> bool
     requires { ⌜ AtPanel (now f) slab (now spans) (now alphas) i j ⌝ }
-    ensures { λ r. ⌜ r ≡ (isEverywhere (layoutOf (now (f .entry))) && unequalPanel (now (f .entry)) i j) ⌝ }
+    ensures { λ r. ⌜ r ≡ unbalancedPanel (now (f .entry)) i j ⌝ }
 {
     let layout = slab.layout;
     let p = share_at(&alphas[X], &spans[Y], j);

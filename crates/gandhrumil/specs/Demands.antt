@@ -1,7 +1,8 @@
 -- The three demands on the product, in their own words, as statements about what the exported functions promise. proofs/Demands shows them.
--- `Opened` and `Changed` are the promises of opening and of a change (crate moments), `panelOf` that of the panel query (crate verdict), `steelOf` that of
--- the steel query (crate steel), `clearOf` that of the question whether a floor is clear (crate clear); none of them asks anything of the caller. What these say is said here by statements: `GivenBy` a chain of checks in the
--- order tried, `Broken`, `Clear`, `PanelEnough`, `Fits`, `rightNumber`, the number that the rules give, and `GoverningAt`, the five of a support.
+-- `Opened` and `Changed` are the promises of opening and of a change (crate moments), `panelOf` that of the panel query (crate verdict), `clearOf` that of
+-- the question whether a floor is clear (crate clear), `steelOf` that of the steel query (crate steel); none of them asks anything of the caller. What
+-- these say is said here by statements: `GivenBy` a chain of checks in the order tried, `Broken`, `Clear`, `PanelEnough`, `Fits`, `rightNumber`, the
+-- number that the rules give, and `GoverningAt`, the five of a support.
 -- Assumes nothing.
 use Prim.Native.Nat.{ℕ, _*_, _≤_, _<_}
 use mathlib.Core.List.{List}
@@ -67,7 +68,7 @@ pub record DemandTwo : Type 0 where
   pub accepted : {f : List ℕ} {l l′ : Lent} {a : Answer} → Opened f l a l′ → Lodged f l → (a .refusal ≡ 0) ↔ Given 0 f
   pub opening : {f : List ℕ} {l l′ : Lent} {a : Answer} → Opened f l a l′ → a .refusal ≡ 0 → Told f l (a .value) l′
   pub change : {f c f′ : List ℕ} {l l′ : Lent} {a : Answer} → Changed f l c a f′ l′ → a .refusal ≡ 0 → Broken f′ (a .value)
-  -- 02, Four: yes exactly where opening gives verdict 0, and its number where opening refuses the floor
+  -- 02, Four: yes exactly where opening, with room for what it writes, gives verdict 0, and the number of opening
   pub clear : {f : List ℕ} {l l′ : Lent} {a : Answer} → Opened f l a l′ → Lodged f l
       → ((clearOf f .value ≡ 1) ↔ ((a .refusal ≡ 0) × (a .value ≡ 0))) × (clearOf f .refusal ≡ a .refusal)
   pub steel : (q : Query) → InRange q

@@ -1,7 +1,6 @@
 -- Two floors and a change written out, to show that the promises are not vacuous. proofs/ExamplesHold shows what is said of them, by computing.
 -- Assumes nothing.
 use Prim.Native.Nat.{ℕ, zero, suc, _/_, _%_, _<_}
-use mathlib.Core.Bool.{cond}
 use mathlib.Core.List.{List, [], _∷_, _++_}
 use mathlib.Core.Path.{_≡_}
 use lib.Dec.{eqb}
@@ -12,7 +11,7 @@ use Rattle.limits.specs.Meaning.{Broken}
 use Rattle.tables.specs.Width.{recordWidth}
 use Rattle.answers.specs.declared.Answer.{Answer}
 use Rattle.answers.specs.Answers.{answer}
-use Rattle.clear.specs.Answers.{clearOf}
+use Rattle.clear.specs.Answers.{yesNo, clearOf}
 use Rattle.moments.specs.Lent.{Lent}
 use Rattle.moments.specs.Tables.{Lodged}
 use Rattle.moments.specs.Opening.{Opened}
@@ -80,7 +79,7 @@ pub record Example (f : List ℕ) (v : ℕ) : Type 0 where
   pub accepted : Given 0 f
   pub judged : Broken f v
   pub opens : {l l′ : Lent} {a : Answer} → Opened f l a l′ → Lodged f l → a ≡ answer 0 v
-  pub clear : clearOf f ≡ answer 0 (cond (eqb v 0) 1 0)
+  pub clear : clearOf f ≡ answer 0 (yesNo (eqb v 0))
 
 -- the first span of the southern frame: Mo, then low end, between and high end, each as total, column, middle, beam and slab
 abbrev pub firstSpan : List ℕ
@@ -99,3 +98,5 @@ pub record Examples : Type 0 where
   -- a change that is taken, clear before and after
   pub taken : {l l′ : Lent} {a : Answer} {f′ : List ℕ} → Changed garage l lighter a f′ l′ → Lodged garage l → a ≡ answer 0 0
   pub after : Example (changed garage lighter) 0
+  -- no bytes at all: not clear, refused 1
+  pub nothing : clearOf [] ≡ answer 1 0

@@ -52,7 +52,7 @@ pub record AtPanel (f : List ℕ) (slab : Slab) (s a : List (List ℕ)) (i j : �
   pub alphas : PanelAlphas f i j a
 
 -- α of the four lines around the first panel, and of no other line
-pub record NearFirst (f : List ℕ) (slab : Slab) (s a : List (List ℕ)) : Type 0 where
+pub record FirstPanelAlphas (f : List ℕ) (slab : Slab) (s a : List (List ℕ)) : Type 0 where
   pub surveyed : Surveyed f slab s
   pub near : PanelAlphaRows f 0 0 a
 

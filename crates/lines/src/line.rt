@@ -7,7 +7,7 @@ ghost use lib.ListN.{getD, length};
 ghost use Rattle.plan.specs.Asked.{Sized};
 ghost use Rattle.lines.specs.Lines.{below, lineAlpha};
 ghost use Rattle.lines.specs.Rows.{Spans, Alphas, SameElse, AllSpans, AlphaRows, PanelAlphaRows, pairAt};
-ghost use Rattle.lines.specs.Asked.{LineAtHand, Surveyed, PanelAtHand, NearFirst, TwoAlphas};
+ghost use Rattle.lines.specs.Asked.{LineAtHand, Surveyed, PanelAtHand, FirstPanelAlphas, TwoAlphas};
 use crate::slab::Slab;
 use layouts::outer_line;
 use plan::read;
@@ -120,14 +120,14 @@ pub fn panel_alphas(f: &[u8], slab: Slab, spans: &[[u64; 13]; 2], i: u32, j: u32
     [x, y]
 }
 
-// All rows, where those of the four lines around the first panel are at hand.
-pub fn other_alphas(
+// α of every line, where that of the four lines around the first panel is at hand.
+pub fn remaining_alphas(
     f: &[u8],
     slab: Slab,
     spans: &[[u64; 13]; 2],
     near: &[[u64; 13]; 2],
 ) -> [[u64; 13]; 2]
-    requires { ⌜ NearFirst (now f) slab (now spans) (now near) ⌝ }
+    requires { ⌜ FirstPanelAlphas (now f) slab (now spans) (now near) ⌝ }
     ensures { λ r. ⌜ AlphaRows (now (f .entry)) r ⌝ }
 {
     let mut x = near[X];

@@ -133,5 +133,6 @@ pub fn thin(f: &[u8], slab: Slab, spans: &[[u64; 13]; 2], alphas: &[[u64; 13]; 2
         }
         j += 1;
     }
+    // Left before the last row was passed: some panel is too thin.
     j < ny
 }

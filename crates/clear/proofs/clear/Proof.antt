@@ -20,4 +20,4 @@ clear-spec =
     (λ c κs. search needs)
     (λ c κs. search needs)
     (λ c. rw (← c .before .before .before .before .refusal .ensures, eq-eqb _ _ (c .before .before .before .if1 .left))
-    (c .success .ensures ∙ ap (answer 0) (c .before .yes-no .ensures ∙ ap yesNo (c .before .before .stands .ensures)))))
+    (c .success .ensures ∙ ap (answer 0) (c .before .yes-no .ensures ∙ ap yesNo (c .before .before .is-clear .ensures)))))

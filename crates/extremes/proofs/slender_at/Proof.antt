@@ -1,8 +1,9 @@
--- The panel's two spans, twice as long as one another (Panels).
+-- Of the panel's two spans one exceeds twice the other, or neither does (Panels).
 -- Assumes nothing.
 use native.Mathlib.Omega.{arith}
 use borrow.Author.Needs.{needs}
-use Rattle.extremes.proofs.Panels.{bays-few, spans-at, slender-one}
+use Rattle.lines.proofs.Slabs.{panel-few}
+use Rattle.extremes.proofs.Panels.{spans-at, slender-one}
 use Rattle.extremes.proofs.slender_at.Statement.{statement}
 use Rattle.extremes.proofs.slender_at.Tie as tie
 
@@ -12,9 +13,9 @@ slender-at-spec =
     (tie.spec
     (λ c. search needs)
     (λ c. search needs)
-    (λ c. omega (arith, bays-few (c .before .pre) .0))
+    (λ c. omega (arith, panel-few (c .before .pre) .0))
     (λ c. search needs)
     (λ c. search needs)
-    (λ c. omega (arith, bays-few (c .before .before .pre) .1))
+    (λ c. omega (arith, panel-few (c .before .before .pre) .1))
     (λ c κs. let p = c .before .before .before .pre in (spans-at p .0, (spans-at p .1, record { most = omega arith })))
     (λ c. slender-one (c .before .before .before .before .pre) (c .two-apart .ensures)))

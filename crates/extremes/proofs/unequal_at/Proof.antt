@@ -1,4 +1,4 @@
--- p and q of the panel, five times one another, by cases of the layout (Panels).
+-- Of the panel's p and q one exceeds five times the other, or neither does, by cases of the layout (Panels).
 -- Assumes nothing.
 use borrow.Author.Needs.{needs}
 use Rattle.extremes.proofs.Panels.{bay-x, bay-y, unequal-one, bare-one}

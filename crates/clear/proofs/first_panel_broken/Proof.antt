@@ -2,11 +2,11 @@
 -- Assumes nothing.
 use borrow.Author.Needs.{needs}
 use Rattle.clear.proofs.Verdict.{thin-first}
-use Rattle.clear.proofs.first_broken.Statement.{statement}
-use Rattle.clear.proofs.first_broken.Tie as tie
+use Rattle.clear.proofs.first_panel_broken.Statement.{statement}
+use Rattle.clear.proofs.first_panel_broken.Tie as tie
 
-pub first-broken-spec : {M : Type 1} → statement M
-first-broken-spec =
+pub first-panel-broken-spec : {M : Type 1} → statement M
+first-panel-broken-spec =
     tie.close
     (tie.spec
     (λ c κs. search needs)

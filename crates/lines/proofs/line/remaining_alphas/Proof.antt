@@ -4,11 +4,11 @@ use borrow.Author.Needs.{needs}
 use Rattle.plan.specs.declared.ways.Way.the-variants.{X, Y}
 use Rattle.lines.proofs.Slabs.{bays-of, lines-of, some-lines}
 use Rattle.lines.proofs.Filled.{both-alphas, joined}
-use Rattle.lines.proofs.line.other_alphas.Statement.{statement}
-use Rattle.lines.proofs.line.other_alphas.Tie as tie
+use Rattle.lines.proofs.line.remaining_alphas.Statement.{statement}
+use Rattle.lines.proofs.line.remaining_alphas.Tie as tie
 
-pub other-alphas-spec : {M : Type 1} → statement M
-other-alphas-spec =
+pub remaining-alphas-spec : {M : Type 1} → statement M
+remaining-alphas-spec =
     tie.close
     (tie.spec
     (λ c. search needs)

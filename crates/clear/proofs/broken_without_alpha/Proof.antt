@@ -3,11 +3,11 @@
 use borrow.Author.Needs.{needs}
 use Rattle.plan.specs.declared.ways.Way.the-variants.{X, Y}
 use Rattle.places.proofs.AtPlace.{along-of}
-use Rattle.clear.proofs.lines_broken.Statement.{statement}
-use Rattle.clear.proofs.lines_broken.Tie as tie
+use Rattle.clear.proofs.broken_without_alpha.Statement.{statement}
+use Rattle.clear.proofs.broken_without_alpha.Tie as tie
 
-pub lines-broken-spec : {M : Type 1} → statement M
-lines-broken-spec =
+pub broken-without-alpha-spec : {M : Type 1} → statement M
+broken-without-alpha-spec =
     tie.close
     (tie.spec
     (λ c. search needs)
