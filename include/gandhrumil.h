@@ -16,7 +16,7 @@
 #include <stdint.h>
 
 /* Rises by 1 with each change of what is declared here and each change of an answer. docs/CHANGES.md says what a caller must do. */
-#define GANDHRUMIL_VERSION 4
+#define GANDHRUMIL_VERSION 5
 
 /* A call uses less than GANDHRUMIL_STACK bytes of stack. Measured on floors of 12 by 12 bays, clear and not, the deepest uses less
  * than 6 KiB on aarch64, and in version 1 on x86-64 too, under an emulator; the rest is margin. */
@@ -72,6 +72,11 @@ gandhrumil_answer gandhrumil_change(uint8_t *floor, size_t floor_len, uint32_t *
 /* The least thickness in mm of the panel of x bay x and y bay y, each counted from 0; no more than 423. A beam on an outer line that is less than
  * 0.80 times as stiff as its slab makes the panels along that line ask for more. Tries 1 to 7, then 10; 0 where refused. */
 gandhrumil_answer gandhrumil_panel(const uint8_t *floor, size_t floor_len, uint64_t x, uint64_t y);
+
+/* Whether the floor is clear: value 1 is yes, 0 is no. Yes exactly where gandhrumil_open, with room for what it writes, gives verdict 0. This
+ * call stops at the first broken limit, and does not say which it is. Tries 1 to 7; a refused floor answers no, with its number. No table is
+ * lent, and nothing is written. */
+gandhrumil_answer gandhrumil_clear(const uint8_t *floor, size_t floor_len);
 
 /* The least whole area of steel in mm2 for the moment m, 0 to 2,000,000,000 N.cm, on a width b, 1 to 12,000 mm, of a slab of thickness t, 90 to
  * 500 mm, at the effective depth d, 50 to t - 25 mm, or 0 for t - 26; concrete fc, 20 to 60 MPa, steel fy, 280, 420 or 520 MPa.

@@ -25,7 +25,7 @@ pub fn refused(number: u32) -> Answer
     }
 }
 
-// A refused query, which answers 0 mm or 0 mm².
+// A refused query, which answers 0 mm, 0 mm² or no.
 pub fn refused_query(number: u32) -> Answer
     ensures { λ r. ⌜ r ≡ answer number 0 ⌝ }
 {

@@ -9,6 +9,7 @@
 //     3  panel    x bay, y bay: two words each, the low one first
 //     4  steel    m, b, t, d, fc, fy: two words each, the low one first
 //     5  show
+//     6  clear
 //
 // `show` prints the floor's bytes, then all the numbers of the table and of the governing slice, past their records too, each on a line of its
 // own; the others print refusal and value on a line. The program stops at a batch without calls, which is what the end of the input reads as, at a length that its
@@ -19,6 +20,7 @@ ghost use Rattle.tables.specs.Width.{recordWidth};
 ghost use Rattle.calls.specs.Shown.{Shown};
 use answers::Answer;
 use gandhrumil::gandhrumil_change;
+use gandhrumil::gandhrumil_clear;
 use gandhrumil::gandhrumil_open;
 use gandhrumil::gandhrumil_panel;
 use gandhrumil::gandhrumil_steel;
@@ -109,6 +111,7 @@ fn call(floor: &mut [u8], table: &mut [u32], governing: &mut [u32]) -> bool
         3 => show_answer(gandhrumil_panel(floor, long(), long())),
         4 => show_answer(gandhrumil_steel(long(), long(), long(), long(), long(), long())),
         5 => show(floor, table, governing),
+        6 => show_answer(gandhrumil_clear(floor)),
         _ => return false,
     }
     true

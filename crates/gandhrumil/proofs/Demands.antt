@@ -7,13 +7,17 @@ use mathlib.Core.Path.{_≡_, refl, sym, ap, subst, _∙_}
 use native.Mathlib.Omega.{arith}
 use lib.ListN.{getD}
 use lib.Seq.{ext-getD}
+use borrow.Author.Tests.{ne-eqb}
+use Rattle.numbers.proofs.Tests.{says-eq, by-says}
 use Rattle.floor.specs.Refusal.{refusal, Given}
 use Rattle.floor.proofs.Meaning.{given}
 use Rattle.changes.specs.Change.{changeKind, changeIndex, changed}
 use Rattle.answers.specs.declared.Answer.{Answer}
 use Rattle.limits.specs.Meaning.{Broken, Clear}
-use Rattle.limits.proofs.Meaning.{broken, broken-one}
+use Rattle.limits.proofs.Meaning.{broken, broken-one, clear-is}
 use Rattle.verdict.proofs.Answers.{panel-answer}
+use Rattle.clear.specs.Answers.{clearOf}
+use Rattle.clear.proofs.Answers.{clear-answer}
 use Rattle.plan.specs.Plan.{baysOf}
 use Rattle.tables.specs.Places.{Place}
 use Rattle.supports.specs.Governing.{supportWidth, fiveFrom, supportNumber, supportIn}
@@ -26,7 +30,7 @@ use Rattle.moments.specs.Opening.{openRefusal, Opened}
 use Rattle.moments.specs.Changing.{changeNumber, Changed}
 use Rattle.moments.specs.Meaning.{GivenOpening, GivenChanging, Supported, Agrees, LentOf, LentNamed, OpeningSays, ChangeSays}
 use Rattle.moments.specs.Mornings.{Morning, standing}
-use Rattle.moments.proofs.Room.{open-parts, open-whole, given-opening, given-changing}
+use Rattle.moments.proofs.Room.{open-parts, open-whole, opening-number, given-opening, given-changing}
 use Rattle.moments.proofs.Meaning.{earned, lent-of, lent-of-one, opening-says, change-says, agrees}
 use Rattle.moments.proofs.Sums.{adds-up}
 use Rattle.moments.proofs.Governed.{agrees-at, by-zeros}
@@ -101,6 +105,22 @@ module _ {f : List ℕ} {l l′ : Lent} {a : Answer} (o : Opened f l a l′) whe
       let number : opening .number ≡ 0 = sym open-number ∙ z in
       told (open-parts f l (sym refusal-opened ∙ z) .0) (opening .answer .verdict number) (opening .filled number)
 
+  -- where table and slice have room, the floor alone is refused
+  same-number : Lodged f l → refusal f ≡ a .refusal
+  same-number room =
+      by-says (says-eq (refusal f) 0) (λ z. z ∙ sym (refusal-opened ∙ open-whole f l z room)) (λ n. opening-number f l refl (rw (ne-eqb _ _ n)) ∙ sym refusal-opened)
+
+  open-clear : Lodged f l → ((clearOf f .value ≡ 1) ↔ ((a .refusal ≡ 0) × (a .value ≡ 0))) × (clearOf f .refusal ≡ a .refusal)
+  open-clear room =
+      let c = clear-answer f in (
+        (
+          λ e. let (g, n) = c .is-yes .0 e in
+              let z = open-accepted room .1 g in (z, clear-is (open-told z .verdict) .1 n),
+          λ h. c .is-yes .1 (open-accepted room .0 (h .0), clear-is (open-told (h .0) .verdict) .0 (h .1)),
+        ),
+        sym (given _ f .1 (c .given)) ∙ same-number room,
+      )
+
 -- ---- a change
 
 module _ {f c f′ : List ℕ} {l l′ : Lent} {a : Answer} (o : Changed f l c a f′ l′) where
@@ -149,6 +169,7 @@ demand-one =
       change = λ o. (change-given o, earned (change o .answer), change-refused o);
       panel = panel-answer;
       steel = steel-answer;
+      clear = clear-answer;
     }
 
 pub demand-two : DemandTwo
@@ -157,6 +178,7 @@ demand-two =
       accepted = open-accepted;
       opening = open-told;
       change = change-verdict;
+      clear = open-clear;
       steel = λ q h. let s = steel-answer q in
           ((λ e. s .found .0 e .1, λ some. s .found .1 (h, some)), (λ e. s .none .0 e .1, λ no. s .none .1 (h, no)), s .least);
     }

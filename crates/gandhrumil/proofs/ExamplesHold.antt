@@ -1,9 +1,10 @@
 -- What is said of the examples: refusals, verdicts and the first record by computing, and from them what opening and the change answer.
 -- Assumes nothing.
 use Prim.Native.Nat.{ℕ, _+_, _*_, _<_, zero-le}
-use mathlib.Core.List.{List}
+use mathlib.Core.List.{List, []}
 use mathlib.Core.Path.{_≡_, refl, ap, subst, _∙_}
 use native.Mathlib.Omega.{arith}
+use lib.Dec.{eqb}
 use lib.ListN.{getD}
 use Rattle.changes.specs.Change.{changeOk, changed}
 use Rattle.changes.specs.Refusal.{changeChecks, changeRefusal}
@@ -41,6 +42,8 @@ use Rattle.moments.specs.Lent.{Lent}
 use Rattle.moments.specs.Tables.{Lodged}
 use Rattle.moments.specs.Opening.{Opened}
 use Rattle.moments.proofs.Room.{open-whole, change-whole}
+use Rattle.answers.specs.Answers.{answer}
+use Rattle.clear.specs.Answers.{yesNo, clearOf}
 use Rattle.gandhrumil.specs.Examples.{oneBay, garage, lighter, firstSpan, Example, Examples}
 use Rattle.gandhrumil.proofs.Demands.{demand-two}
 
@@ -50,11 +53,15 @@ abbrev first : Place
 first = record { way = X; line = 0; span = 0 }
 
 computed : (refusal oneBay ≡ 0) × (verdict oneBay ≡ 1) × (refusal garage ≡ 0) × (verdict garage ≡ 0) × (changeRefusal garage lighter ≡ 0)
-    × (refusal (changed garage lighter) ≡ 0) × (verdict (changed garage lighter) ≡ 0) × (recordOf (viewIn garage first) ≡ firstSpan) × (bays garage X ≡ 5)
-unfolding changeOk changed changeChecks changeRefusal countOk everyRecord firstOk floorChecks kindOk lengthOk recordOk refusal valueChecks beamsOk keeps kept keptAlong layoutOf adjoining astray astrayColumn few heavy slenderPanel somePair sumOf thinPanel unbalanced unequalPanel uneven verdict below clearSpan lineAlpha outerPanel pairAlpha panelPlace panelThickness panelView weakEdge slabOf tried put until le16 le32 bays offset value changeable countOf startOf total unlistedZero beamOk columnOk columnsOk loadsOk materialsOk offsetOk sidesOk sizesOk spanOk valuesOk betweenStrips endStrips outerPart percentsOf recordOf highEnd lineView lowEnd outerEnd viewOf spanWork alpha columnStripWidth frameWidth transverseSpan edgeTorsion flange flangedInertia inertia torsion endPercent endRow clearLength staticMoment spanRatio stiffnessRatio torsionRatio beamShare outerNegative part split answerOf01 divisor leastThickness middling raised raises stiff tabled
-computed = (refl, refl, refl, refl, refl, refl, refl, refl, refl)
+    × (refusal (changed garage lighter) ≡ 0) × (verdict (changed garage lighter) ≡ 0) × (recordOf (viewIn garage first) ≡ firstSpan) × (bays garage X ≡ 5) × (clearOf [] ≡ answer 1 0)
+unfolding clearOf changeOk changed changeChecks changeRefusal countOk everyRecord firstOk floorChecks kindOk lengthOk recordOk refusal valueChecks beamsOk keeps kept keptAlong layoutOf adjoining astray astrayColumn few heavy slenderPanel somePair sumOf thinPanel unbalanced unequalPanel uneven verdict below clearSpan lineAlpha outerPanel pairAlpha panelPlace panelThickness panelView weakEdge slabOf tried put until le16 le32 bays offset value changeable countOf startOf total unlistedZero beamOk columnOk columnsOk loadsOk materialsOk offsetOk sidesOk sizesOk spanOk valuesOk betweenStrips endStrips outerPart percentsOf recordOf highEnd lineView lowEnd outerEnd viewOf spanWork alpha columnStripWidth frameWidth transverseSpan edgeTorsion flange flangedInertia inertia torsion endPercent endRow clearLength staticMoment spanRatio stiffnessRatio torsionRatio beamShare outerNegative part split answerOf01 divisor leastThickness middling raised raises stiff tabled
+computed = (refl, refl, refl, refl, refl, refl, refl, refl, refl, refl)
 
 -- ---- from that
+
+cleared : (f : List ℕ) {v : ℕ} → refusal f ≡ 0 → verdict f ≡ v → clearOf f ≡ answer 0 (yesNo (eqb v 0))
+unfolding clearOf
+cleared f e j = rw (e, j)
 
 example : {f : List ℕ} {v : ℕ} → refusal f ≡ 0 → verdict f ≡ v → Example f v
 example {f} e j =
@@ -62,6 +69,7 @@ example {f} e j =
       accepted = given 0 f .0 e;
       judged = subst (Broken f) j (broken f e);
       opens = λ {l = l} o room. o .answer ∙ rw (open-whole f l e room, j);
+      clear = cleared f e j;
     }
 
 opened-first : refusal garage ≡ 0 → verdict garage ≡ 0 → recordOf (viewIn garage first) ≡ firstSpan → bays garage X ≡ 5 → {l l′ : Lent} {a : Answer} → Opened garage l a l′ → Lodged garage l
@@ -75,11 +83,12 @@ opened-first e j numbers five {l′ = l′} o room n h =
 
 pub examples-hold : Examples
 examples-hold =
-    let (one-accepted, one-verdict, accepted, clear, taken, accepted-after, clear-after, numbers, five) = computed in
+    let (one-accepted, one-verdict, accepted, clear, taken, accepted-after, clear-after, numbers, five, nothing) = computed in
     record {
       one-bay = example one-accepted one-verdict;
       five-by-four = example accepted clear;
       first = opened-first accepted clear numbers five;
       taken = λ {l = l} o room. o .answer ∙ rw (change-whole garage l lighter taken room, clear-after);
       after = example accepted-after clear-after;
+      nothing = nothing;
     }

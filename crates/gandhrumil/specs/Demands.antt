@@ -1,7 +1,8 @@
 -- The three demands on the product, in their own words, as statements about what the exported functions promise. proofs/Demands shows them.
--- `Opened` and `Changed` are the promises of opening and of a change (crate moments), `panelOf` that of the panel query (crate verdict), `steelOf` that of
--- the steel query (crate steel); none of them asks anything of the caller. What these say is said here by statements: `GivenBy` a chain of checks in the
--- order tried, `Broken`, `Clear`, `PanelEnough`, `Fits`, `rightNumber`, the number that the rules give, and `GoverningAt`, the five of a support.
+-- `Opened` and `Changed` are the promises of opening and of a change (crate moments), `panelOf` that of the panel query (crate verdict), `clearOf` that of
+-- the question whether a floor is clear (crate clear), `steelOf` that of the steel query (crate steel); none of them asks anything of the caller. What
+-- these say is said here by statements: `GivenBy` a chain of checks in the order tried, `Broken`, `Clear`, `PanelEnough`, `Fits`, `rightNumber`, the
+-- number that the rules give, and `GoverningAt`, the five of a support.
 -- Assumes nothing.
 use Prim.Native.Nat.{ℕ, _*_, _≤_, _<_}
 use mathlib.Core.List.{List}
@@ -14,6 +15,7 @@ use Rattle.changes.specs.Change.{changeKind, changeIndex, changed}
 use Rattle.answers.specs.declared.Answer.{Answer}
 use Rattle.limits.specs.Meaning.{Broken, Clear}
 use Rattle.verdict.specs.Answers.{panelOf, PanelAnswer}
+use Rattle.clear.specs.Answers.{clearOf, ClearAnswer}
 use Rattle.tables.specs.Width.{recordWidth}
 use Rattle.tables.specs.Places.{Place, Inside, recordCount}
 use Rattle.plan.specs.Plan.{baysOf}
@@ -41,6 +43,8 @@ pub record DemandOne : Type 0 where
   pub panel : (f : List ℕ) (x y : ℕ) → PanelAnswer f x y (panelOf f x y)
   -- each of 11, 12 and 0 exactly when 01 says, and 0 mm² where refused
   pub steel : (q : Query) → SteelAnswer q (steelOf q)
+  -- 02, Four: "Yes exactly when the full verdict is 0; a refused floor answers no with its number"
+  pub clear : (f : List ℕ) → ClearAnswer f (clearOf f)
 
 -- What verdict v and the table tell of floor f: which limits are broken; if none is, every number is the one that the rules give, and the three
 -- parts of each section add up; otherwise all numbers are 0. The governing slice agrees with the table, and is 0 where the table is (02, One).
@@ -64,6 +68,9 @@ pub record DemandTwo : Type 0 where
   pub accepted : {f : List ℕ} {l l′ : Lent} {a : Answer} → Opened f l a l′ → Lodged f l → (a .refusal ≡ 0) ↔ Given 0 f
   pub opening : {f : List ℕ} {l l′ : Lent} {a : Answer} → Opened f l a l′ → a .refusal ≡ 0 → Told f l (a .value) l′
   pub change : {f c f′ : List ℕ} {l l′ : Lent} {a : Answer} → Changed f l c a f′ l′ → a .refusal ≡ 0 → Broken f′ (a .value)
+  -- 02, Four: yes exactly where opening, with room for what it writes, gives verdict 0, and the number of opening
+  pub clear : {f : List ℕ} {l l′ : Lent} {a : Answer} → Opened f l a l′ → Lodged f l
+      → ((clearOf f .value ≡ 1) ↔ ((a .refusal ≡ 0) × (a .value ≡ 0))) × (clearOf f .refusal ≡ a .refusal)
   pub steel : (q : Query) → InRange q
       → ((steelOf q .refusal ≡ 0) ↔ ((As : ℕ) × Fits q As))
       × ((steelOf q .refusal ≡ 12) ↔ ((As : ℕ) → ¬ Fits q As))

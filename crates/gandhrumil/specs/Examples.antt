@@ -3,6 +3,7 @@
 use Prim.Native.Nat.{ℕ, zero, suc, _/_, _%_, _<_}
 use mathlib.Core.List.{List, [], _∷_, _++_}
 use mathlib.Core.Path.{_≡_}
+use lib.Dec.{eqb}
 use lib.ListN.{getD}
 use Rattle.floor.specs.Refusal.{Given}
 use Rattle.changes.specs.Change.{changed}
@@ -10,6 +11,7 @@ use Rattle.limits.specs.Meaning.{Broken}
 use Rattle.tables.specs.Width.{recordWidth}
 use Rattle.answers.specs.declared.Answer.{Answer}
 use Rattle.answers.specs.Answers.{answer}
+use Rattle.clear.specs.Answers.{yesNo, clearOf}
 use Rattle.moments.specs.Lent.{Lent}
 use Rattle.moments.specs.Tables.{Lodged}
 use Rattle.moments.specs.Opening.{Opened}
@@ -72,11 +74,12 @@ lighter = entry 3 0 7000 4500 0
 
 -- ---- what is said of them
 
--- floor f is accepted, v names what is broken, and opening it answers so wherever table and slice have room
+-- floor f is accepted, v names what is broken, opening it answers so wherever table and slice have room, and it is clear where v is 0
 pub record Example (f : List ℕ) (v : ℕ) : Type 0 where
   pub accepted : Given 0 f
   pub judged : Broken f v
   pub opens : {l l′ : Lent} {a : Answer} → Opened f l a l′ → Lodged f l → a ≡ answer 0 v
+  pub clear : clearOf f ≡ answer 0 (yesNo (eqb v 0))
 
 -- the first span of the southern frame: Mo, then low end, between and high end, each as total, column, middle, beam and slab
 abbrev pub firstSpan : List ℕ
@@ -95,3 +98,5 @@ pub record Examples : Type 0 where
   -- a change that is taken, clear before and after
   pub taken : {l l′ : Lent} {a : Answer} {f′ : List ℕ} → Changed garage l lighter a f′ l′ → Lodged garage l → a ≡ answer 0 0
   pub after : Example (changed garage lighter) 0
+  -- no bytes at all: not clear, refused 1
+  pub nothing : clearOf [] ≡ answer 1 0

@@ -2,6 +2,7 @@
 // its own to what the layer below promises.
 ghost use mathlib.Core.Path.{_≡_};
 ghost use Rattle.verdict.specs.Answers.{panelOf};
+ghost use Rattle.clear.specs.Answers.{clearOf};
 ghost use Rattle.moments.specs.Lent.{lent};
 ghost use Rattle.moments.specs.Opening.{Opened};
 ghost use Rattle.moments.specs.Changing.{Changed};
@@ -37,6 +38,14 @@ pub extern "C" fn gandhrumil_panel(floor: &[u8], x: u64, y: u64) -> Answer
     ensures { λ r. ⌜ r ≡ panelOf (now (floor .entry)) x y ⌝ }
 {
     verdict::panel(floor, x, y)
+}
+
+// Whether the floor is clear: 1 yes, 0 no; a refused floor answers no with its number.
+#[no_mangle]
+pub extern "C" fn gandhrumil_clear(floor: &[u8]) -> Answer
+    ensures { λ r. ⌜ r ≡ clearOf (now (floor .entry)) ⌝ }
+{
+    clear::clear(floor)
 }
 
 // The least whole area of steel in mm² for the moment m, in N·cm, on a width b of a slab of thickness t.

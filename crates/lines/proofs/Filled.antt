@@ -1,8 +1,9 @@
 -- What is read of a floor's lines and panels once for all of them.
 --     Filled, one-more             numbers of an array, one after another
---     untouched, zero-else         and zeros elsewhere
+--     untouched, same-else         and what was there elsewhere
 --     filled                       α of lines that stand one after another
 --     both-spans, both-alphas      a row for each direction
+--     all-rows, panel-rows, joined    rows filled with α of all lines, of a panel's lines, and on from those of the first panel
 --     one-row                      no second row of α
 --     one-spans, one-alphas, one-panel-alphas    no second array of both rows
 --     pair-in, pair-is             the two beside a bay, and their sum
@@ -13,7 +14,8 @@
 --     asked, least-is, enough-is   which is in the rules' range, and of which its least thickness, and whether t is enough, are worked out
 --     thick-in                     t is in range too
 -- Assumes nothing.
-use Prim.Native.Nat.{ℕ, _+_, _-_, _≤_, _<_, min, max}
+use Prim.Native.Nat.{ℕ, _+_, _-_, _≤_, _<_, min, max, zero-le}
+use native.Mathlib.Nat.{not-suc-le-zero}
 use mathlib.Core.Bool.{Bool, true, false, _&&_, _||_}
 use mathlib.Core.List.{List, [], _∷_}
 use mathlib.Core.Logic.{_⊎_, inl, inr}
@@ -21,7 +23,7 @@ use mathlib.Core.Path.{_≡_, refl, sym, _∙_}
 use native.Mathlib.Decide.{decLt}
 use native.Mathlib.Omega.{arith}
 use lib.Dec.{leb, ltb}
-use lib.ListN.{getD, length, set}
+use lib.ListN.{getD, length, set, replicate, getD-replicate}
 use lib.Seq.{getD-set-same, getD-set-other, ext-getD}
 use Rattle.plan.specs.declared.ways.Way.{Way}
 use Rattle.plan.specs.declared.ways.Way.the-variants.{X, Y}
@@ -38,7 +40,7 @@ use Rattle.thickness.specs.LeastThickness.{leastThickness}
 use Rattle.lines.specs.declared.slab.Slab.{Slab}
 use Rattle.lines.specs.Lines.{outer, lineAlpha, pairAlpha, clearSpan, outerPanel, weakEdge, placeOf, panelPlace, isEverywhere, panelView, panelThickness}
 use Rattle.lines.specs.Slabs.{slabOf}
-use Rattle.lines.specs.Rows.{Alphas, ZeroElse, Spans, AllSpans, AllAlphas, AlphaRows, PanelAlphaRows, TwoRows, rowOf, pairAt, weakAt}
+use Rattle.lines.specs.Rows.{Alphas, SameElse, ZeroElse, Spans, AllSpans, AllAlphas, AlphaRows, PanelAlphaRows, TwoRows, rowOf, pairAt, weakAt}
 use Rattle.lines.specs.Asked.{TwoAlphas, Clearing, Ready, PanelAtHand, AtPanel}
 use Rattle.lines.proofs.Floors.{alpha-bound, panel-in}
 
@@ -53,18 +55,18 @@ one-more v from n a {x} h r e k p q =
       | no w ↦ let s : k ≡ n = omega arith in rw (s, getD-set-same a n x 0 r) e
     ]
 
--- the other places of a keep their zeros
-abbrev pub Untouched : ℕ → ℕ → List ℕ → Type 0
-Untouched from n a = (k : ℕ) → k < 13 → (k < from) ⊎ (n ≤ k) → getD a k 0 ≡ 0
+-- the other places keep what they have in b
+abbrev pub Untouched : ℕ → ℕ → List ℕ → List ℕ → Type 0
+Untouched from n b a = (k : ℕ) → k < 13 → (k < from) ⊎ (n ≤ k) → getD a k 0 ≡ getD b k 0
 
-pub untouched : (from n : ℕ) (a : List ℕ) (x : ℕ) → from ≤ n → Untouched from n a → Untouched from (n + 1) (set a n x)
-untouched from n a x h u k q (inl o) = rw (getD-set-other a n k x 0 (omega arith)) (u k q (inl o))
-untouched from n a x h u k q (inr o) = rw (getD-set-other a n k x 0 (omega arith)) (u k q (inr (omega arith)))
+pub untouched : (from n : ℕ) (b a : List ℕ) (x : ℕ) → from ≤ n → Untouched from n b a → Untouched from (n + 1) b (set a n x)
+untouched from n b a x h u k q (inl o) = rw (getD-set-other a n k x 0 (omega arith)) (u k q (inl o))
+untouched from n b a x h u k q (inr o) = rw (getD-set-other a n k x 0 (omega arith)) (u k q (inr (omega arith)))
 
-pub zero-else : (from to n : ℕ) (a : List ℕ) → (n ≤ to + 1) ⊎ (n ≤ from) → Untouched from n a → ZeroElse from to a
-zero-else from to n a w u k q (inl o) = u k q (inl o)
-zero-else from to n a (inl h) u k q (inr o) = u k q (inr (omega arith))
-zero-else from to n a (inr h) u k q (inr o) =
+pub same-else : (from to n : ℕ) (b a : List ℕ) → (n ≤ to + 1) ⊎ (n ≤ from) → Untouched from n b a → SameElse from to b a
+same-else from to n b a w u k q (inl o) = u k q (inl o)
+same-else from to n b a (inl h) u k q (inr o) = u k q (inr (omega arith))
+same-else from to n b a (inr h) u k q (inr o) =
     elim (decLt k from) [
       | yes l ↦ u k q (inl l)
       | no l ↦ u k q (inr (omega arith))
@@ -117,6 +119,51 @@ both-alphas {f} {x} {y} e g p q = record { known = known; rest = rest }
     rest : (d : Way) → ZeroElse 0 (lastLine f d) (rowOf (x ∷ y ∷ []) d)
     rest X = rw (← e) (p .1)
     rest Y = rw (← g) (q .1)
+
+from-zeros : (from to : ℕ) (a : List ℕ) → SameElse from to (replicate 13 0) a → ZeroElse from to a
+from-zeros from to a h k q o = h k q o ∙ getD-replicate 13 k 0 0 q
+
+pub all-rows : {f x y : List ℕ} {m n : ℕ} → m ≡ lastLine f X → n ≡ lastLine f Y → Alphas f X 0 m x × SameElse 0 m (replicate 13 0) x × (length x ≡ 13)
+    → Alphas f Y 0 n y × SameElse 0 n (replicate 13 0) y × (length y ≡ 13) → AlphaRows f (x ∷ y ∷ [])
+all-rows {x = x} {y} e g p q = both-alphas e g (p .0, from-zeros _ _ x (p .1)) (q .0, from-zeros _ _ y (q .1))
+
+pub panel-rows : {f x y : List ℕ} {i j : ℕ} → Alphas f X j (j + 1) x × SameElse j (j + 1) (replicate 13 0) x × (length x ≡ 13)
+    → Alphas f Y i (i + 1) y × SameElse i (i + 1) (replicate 13 0) y × (length y ≡ 13) → PanelAlphaRows f i j (x ∷ y ∷ [])
+panel-rows {f} {x} {y} p q =
+    record {
+      rows = record { two = refl; thirteen = long };
+      known = record { x = p .0; y = q .0 };
+      rest-x = from-zeros _ _ x (p .1);
+      rest-y = from-zeros _ _ y (q .1);
+    }
+  where
+    long : (d : Way) → length (rowOf (x ∷ y ∷ []) d) ≡ 13
+    long X = p .2
+    long Y = q .2
+
+-- α of the first two lines, and of the others beside them
+pub joined : {f : List ℕ} {d : Way} {n : ℕ} {a b : List ℕ} → 1 ≤ n → Alphas f d 0 (0 + 1) a → ZeroElse 0 (0 + 1) a → Alphas f d 2 n b → SameElse 2 n a b
+    → Alphas f d 0 n b × ZeroElse 0 n b
+joined {f} {d} {n} {a} {b} some near rest far same =
+    (record { is = is; most = most }, λ k q o. same k q (inr (past k o)) ∙ rest k q (inr (omega (arith, past k o, some))))
+  where
+    past : (k : ℕ) → (k < 0) ⊎ (n < k) → n < k
+    past k (inl o) = absurd (not-suc-le-zero o)
+    past k (inr o) = o
+
+    is : (l : ℕ) → 0 ≤ l → l ≤ n → getD b l 0 ≡ lineAlpha f d l
+    is l p q =
+        elim (decLt l 2) [
+          | yes h ↦ same l (omega (arith, h)) (inl h) ∙ near .is l zero-le (omega (arith, h))
+          | no h ↦ far .is l (omega (arith, h)) q
+        ]
+
+    most : (l : ℕ) → 0 ≤ l → l ≤ n → getD b l 0 ≤ 200000000
+    most l p q =
+        elim (decLt l 2) [
+          | yes h ↦ rw (same l (omega (arith, h)) (inl h)) (near .most l zero-le (omega (arith, h)))
+          | no h ↦ far .most l (omega (arith, h)) q
+        ]
 
 -- there is one row of α of these lines and nothing else
 pub one-row : {f : List ℕ} {d : Way} {from to : ℕ} {a b : List ℕ} → length a ≡ 13 → length b ≡ 13 → Alphas f d from to a × ZeroElse from to a

@@ -1,7 +1,7 @@
 -- What a slab at hand says of its floor.
 --     sized-of, laid-of, bays-of, loads-of    the bays, the layout and the loads
 --     lines-of, line-past                     lines whose α can be worked out: all of a direction, and the two beside a panel
---     panel-few                               a panel's bays are few
+--     some-lines, panel-few                   a direction has a second line, and a panel's bays are few
 --     line-asked, beam-asked, line-is         a line at hand: its two spans, the column across it and its beam, as the rules ask for them, and α
 -- Assumes nothing.
 use Prim.Native.Nat.{ℕ, _+_, _-_, _≤_, _<_}
@@ -17,6 +17,7 @@ use Rattle.plan.specs.Ways.{pick, across}
 use Rattle.plan.specs.Plan.{bays, thickness, column, lastLine, beamWidth, beamDepth, dead, live}
 use Rattle.plan.specs.Asked.{Sized}
 use Rattle.plan.proofs.Reading.{bays-most}
+use Rattle.floor.proofs.Fair.{fair}
 use Rattle.layouts.specs.Layouts.{outerLine, layoutOf}
 use Rattle.stiffness.specs.Asked.{Line, Beam}
 use Rattle.stiffness.specs.Lines.{frameWidth, alpha}
@@ -93,6 +94,10 @@ module _ {f : List ℕ} {slab : Slab} {s : List (List ℕ)} (d : Way) where
 
   pub line-past : {k : ℕ} → Surveyed f slab s → k < lastLine f d → LineAtHand f slab d (rowOf s (across d)) (k + 1)
   line-past p h = to-line p (omega (arith, h))
+
+-- a direction has a second line
+pub some-lines : {f : List ℕ} {slab : Slab} {s : List (List ℕ)} → Surveyed f slab s → (d : Way) → 1 ≤ pick d (slab .bays .y) (slab .bays .x)
+some-lines {f} p d = omega (arith, bays-of f (p .shared) d .1, fair f (p .accepted) .bays-in (across d))
 
 pub panel-few : {f : List ℕ} {slab : Slab} {s : List (List ℕ)} {i j : ℕ} → PanelAtHand f slab s i j → (i < 12) × (j < 12)
 panel-few {f} p = (omega (arith, p .x-bay, bays-most f X), omega (arith, p .y-bay, bays-most f Y))

@@ -11,7 +11,7 @@ use Rattle.plan.specs.Plan.{bays, lastLine}
 use Rattle.floor.specs.Refusal.{refusal}
 use Rattle.lines.specs.declared.slab.Slab.{Slab}
 use Rattle.lines.specs.Slabs.{slabOf}
-use Rattle.lines.specs.Rows.{Spans, AllSpans, AllAlphas, PanelAlphas}
+use Rattle.lines.specs.Rows.{Spans, AllSpans, AllAlphas, PanelAlphas, PanelAlphaRows}
 
 -- line l along d of an accepted floor
 pub record OnLine (f : List ℕ) (d : Way) (l : ℕ) : Type 0 where
@@ -50,6 +50,11 @@ pub record PanelAtHand (f : List ℕ) (slab : Slab) (s : List (List ℕ)) (i j :
 pub record AtPanel (f : List ℕ) (slab : Slab) (s a : List (List ℕ)) (i j : ℕ) : Type 0 where
   pub panel : PanelAtHand f slab s i j
   pub alphas : PanelAlphas f i j a
+
+-- α of the four lines around the first panel, and of no other line
+pub record FirstPanelAlphas (f : List ℕ) (slab : Slab) (s a : List (List ℕ)) : Type 0 where
+  pub surveyed : Surveyed f slab s
+  pub near : PanelAlphaRows f 0 0 a
 
 -- bay k, of whose span the column takes a part
 pub record Clearing (s : List ℕ) (column k : ℕ) : Type 0 where

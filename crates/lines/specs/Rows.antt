@@ -41,6 +41,10 @@ pub record PanelAlphas (f : List ℕ) (i j : ℕ) (a : List (List ℕ)) : Type 0
   pub x : Alphas f X j (j + 1) (rowOf a X)
   pub y : Alphas f Y i (i + 1) (rowOf a Y)
 
+-- b has what a has at each of its thirteen places but `from` to `to`
+abbrev pub SameElse : ℕ → ℕ → List ℕ → List ℕ → Type 0
+SameElse from to a b = (k : ℕ) → k < 13 → (k < from) ⊎ (to < k) → getD b k 0 ≡ getD a k 0
+
 -- a has 0 at each of its thirteen places but `from` to `to`
 abbrev pub ZeroElse : ℕ → ℕ → List ℕ → Type 0
 ZeroElse from to a = (k : ℕ) → k < 13 → (k < from) ⊎ (to < k) → getD a k 0 ≡ 0
@@ -51,6 +55,7 @@ pub record AlphaRows (f : List ℕ) (a : List (List ℕ)) : Type 0 where
   pub rest : (d : Way) → ZeroElse 0 (lastLine f d) (rowOf a d)
 
 pub record PanelAlphaRows (f : List ℕ) (i j : ℕ) (a : List (List ℕ)) : Type 0 where
+  pub rows : TwoRows a
   pub known : PanelAlphas f i j a
   pub rest-x : ZeroElse j (j + 1) (rowOf a X)
   pub rest-y : ZeroElse i (i + 1) (rowOf a Y)

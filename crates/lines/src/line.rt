@@ -3,11 +3,11 @@ ghost use mathlib.Core.Path.{_≡_};
 ghost use mathlib.Core.Bool.{cond};
 ghost use Prim.Native.Nat.{_-_, _≤_, _<_};
 ghost use lib.Dec.{eqb};
-ghost use lib.ListN.{getD};
+ghost use lib.ListN.{getD, length};
 ghost use Rattle.plan.specs.Asked.{Sized};
 ghost use Rattle.lines.specs.Lines.{below, lineAlpha};
-ghost use Rattle.lines.specs.Rows.{Spans, Alphas, ZeroElse, AllSpans, AlphaRows, PanelAlphaRows, pairAt};
-ghost use Rattle.lines.specs.Asked.{LineAtHand, Surveyed, PanelAtHand, TwoAlphas};
+ghost use Rattle.lines.specs.Rows.{Spans, Alphas, SameElse, AllSpans, AlphaRows, PanelAlphaRows, pairAt};
+ghost use Rattle.lines.specs.Asked.{LineAtHand, Surveyed, PanelAtHand, FirstPanelAlphas, TwoAlphas};
 use crate::slab::Slab;
 use layouts::outer_line;
 use plan::read;
@@ -83,18 +83,17 @@ fn line_alpha(f: &[u8], slab: Slab, d: Way, s: &[u64; 13], l: u32) -> u64
     alpha(outer, Section::of(b as u64, h as u64), width, slab.t as u64)
 }
 
-// α of the lines `from` to `to` along d, and zeros elsewhere.
-fn alphas_along(f: &[u8], slab: Slab, d: Way, s: &[u64; 13], from: u32, to: u32) -> [u64; 13]
+// α of the lines `from` to `to` along d, each put into its place.
+fn fill_along(f: &[u8], slab: Slab, d: Way, s: &[u64; 13], a: &mut [u64; 13], from: u32, to: u32)
     requires { ⌜ LineAtHand (now f) slab d (now s) to ⌝ }
-    ensures { λ r. ⌜ Alphas (now (f .entry)) d from to r × ZeroElse from to r ⌝ }
+    requires { ⌜ length (now a) ≡ 13 ⌝ }
+    ensures { λ r. ⌜ Alphas (now (f .entry)) d from to (now (a .exit)) × SameElse from to (now (a .entry)) (now (a .exit)) × (length (now (a .exit)) ≡ 13) ⌝ }
 {
-    let mut a = [0u64; 13];
     let mut l = from;
     while l <= to {
         a[l as usize] = line_alpha(f, slab, d, s, l);
         l += 1;
     }
-    a
 }
 
 // A row for each direction. A line borders two rows of panels, so each is worked out once for all of them.
@@ -102,8 +101,10 @@ pub fn alphas(f: &[u8], slab: Slab, spans: &[[u64; 13]; 2]) -> [[u64; 13]; 2]
     requires { ⌜ Surveyed (now f) slab (now spans) ⌝ }
     ensures { λ r. ⌜ AlphaRows (now (f .entry)) r ⌝ }
 {
-    let x = alphas_along(f, slab, Way::X, &spans[Y], 0, slab.bays.y);
-    let y = alphas_along(f, slab, Way::Y, &spans[X], 0, slab.bays.x);
+    let mut x = [0u64; 13];
+    let mut y = [0u64; 13];
+    fill_along(f, slab, Way::X, &spans[Y], &mut x, 0, slab.bays.y);
+    fill_along(f, slab, Way::Y, &spans[X], &mut y, 0, slab.bays.x);
     [x, y]
 }
 
@@ -112,8 +113,27 @@ pub fn panel_alphas(f: &[u8], slab: Slab, spans: &[[u64; 13]; 2], i: u32, j: u32
     requires { ⌜ PanelAtHand (now f) slab (now spans) i j ⌝ }
     ensures { λ r. ⌜ PanelAlphaRows (now (f .entry)) i j r ⌝ }
 {
-    let x = alphas_along(f, slab, Way::X, &spans[Y], j, j + 1);
-    let y = alphas_along(f, slab, Way::Y, &spans[X], i, i + 1);
+    let mut x = [0u64; 13];
+    let mut y = [0u64; 13];
+    fill_along(f, slab, Way::X, &spans[Y], &mut x, j, j + 1);
+    fill_along(f, slab, Way::Y, &spans[X], &mut y, i, i + 1);
+    [x, y]
+}
+
+// α of every line, where that of the four lines around the first panel is at hand.
+pub fn remaining_alphas(
+    f: &[u8],
+    slab: Slab,
+    spans: &[[u64; 13]; 2],
+    near: &[[u64; 13]; 2],
+) -> [[u64; 13]; 2]
+    requires { ⌜ FirstPanelAlphas (now f) slab (now spans) (now near) ⌝ }
+    ensures { λ r. ⌜ AlphaRows (now (f .entry)) r ⌝ }
+{
+    let mut x = near[X];
+    let mut y = near[Y];
+    fill_along(f, slab, Way::X, &spans[Y], &mut x, 2, slab.bays.y);
+    fill_along(f, slab, Way::Y, &spans[X], &mut y, 2, slab.bays.x);
     [x, y]
 }
 

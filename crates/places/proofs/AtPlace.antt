@@ -3,17 +3,19 @@
 --     neighbours, uneven-is      two neighbouring spans, and all of a direction
 --     lesser-is, adjoining-of    the spans that adjoin a column, and those of every column along a direction
 --     column-is, column-few      a column off its place
+--     row-thick, all-thick, one-thin     rows of panels thick enough, and the first panel that is not
 --     thin-is                    too thin is not thick enough
 -- Assumes nothing.
 use Prim.Native.Nat.{ℕ, _+_, _-_, _*_, _≤_, _<_, min, max}
-use mathlib.Core.Bool.{Bool, true, not, _||_}
+use mathlib.Core.Bool.{Bool, true, false, not, _||_}
 use mathlib.Core.List.{List}
 use mathlib.Core.Path.{_≡_, refl, sym, _∙_}
 use native.Mathlib.Omega.{arith}
 use lib.Dec.{ltb, leb}
 use lib.ListN.{getD}
 use Rattle.numbers.specs.Tests.{some}
-use Rattle.numbers.proofs.Tests.{until-same, says-lt, says-le, says-not, says-as, says-one}
+use borrow.Author.Tests.{lt-ltb, le-ltb}
+use Rattle.numbers.proofs.Tests.{found, done, until-same, says-lt, says-le, says-not, says-as, says-one}
 use Rattle.plan.specs.declared.ways.Way.{Way}
 use Rattle.plan.specs.declared.ways.Way.the-variants.{X, Y}
 use Rattle.plan.specs.declared.read.Bays.{Bays}
@@ -23,13 +25,13 @@ use Rattle.floor.proofs.Fair.{fair}
 use Rattle.lines.specs.declared.slab.Slab.{Slab}
 use Rattle.lines.specs.Lines.{panelThickness}
 use Rattle.lines.specs.Rows.{rowOf}
-use Rattle.lines.specs.Asked.{Surveyed, AtPanel}
+use Rattle.lines.specs.Asked.{Surveyed, Ready, AtPanel}
 use Rattle.lines.proofs.Slabs.{sized-of, bays-of}
 use Rattle.lines.proofs.Filled.{Filled, at-panel}
 use Rattle.limits.specs.Asked.{Neighbours}
-use Rattle.limits.specs.Limits.{unlike, uneven, lesserAt, adjoining, astrayColumn, thinPanel}
+use Rattle.limits.specs.Limits.{somePair, somePanel, unlike, uneven, lesserAt, adjoining, astrayColumn, thinPanel}
 use Rattle.places.specs.Adjoining.{Adjoining}
-use Rattle.places.specs.Asked.{SpansAlong, EndOf, Columns, AtColumn, PanelRow}
+use Rattle.places.specs.Asked.{SpansAlong, EndOf, Columns, AtColumn}
 
 -- ---- the spans along a direction
 
@@ -93,11 +95,30 @@ column-few at =
 
 -- ---- a panel
 
-module _ {f : List ℕ} {slab : Slab} {s a : List (List ℕ)} {j : ℕ} (p : PanelRow f slab s a j) where
-  pub panel-of : {i : ℕ} → i < slab .bays .x → AtPanel f slab s a i j
-  panel-of h =
-      let b = bays-of f (p .ready .surveyed .shared) X in
-      at-panel (p .ready) (omega (arith, b .0, h)) (omega (arith, b .1, p .y-bay))
+pub panel-of : {f : List ℕ} {slab : Slab} {s a : List (List ℕ)} {i j : ℕ} → Ready f slab s a → i < slab .bays .x → j < slab .bays .y → AtPanel f slab s a i j
+panel-of {f} p hi hj =
+    let b = bays-of f (p .surveyed .shared) X in
+    at-panel p (omega (arith, b .0, hi)) (omega (arith, b .1, hj))
+
+-- a row of panels, of which some is too thin or none is
+abbrev pub thinRow : List ℕ → ℕ → Bool
+thinRow f j = some (bays f X) (λ i. thinPanel f i j)
+
+module _ {f : List ℕ} {slab : Slab} {s a : List (List ℕ)} (p : Ready f slab s a) where
+  pub row-thick : (j : ℕ) {i : ℕ} → i ≤ slab .bays .x → slab .bays .x ≤ i → some i (λ k. thinPanel f k j) ≡ false → thinRow f j ≡ false
+  row-thick j {i} l h e = rw (← bays-of f (p .surveyed .shared) X .0) (done true i (slab .bays .x) (λ k. thinPanel f k j) l h e)
+
+  -- every row was passed, or the walk was left at a panel
+  pub all-thick : {j : ℕ} → j ≤ slab .bays .y → slab .bays .y ≤ j → some j (thinRow f) ≡ false → ltb j (slab .bays .y) ≡ somePanel f (thinPanel f)
+  unfolding somePair
+  all-thick {j} l h e =
+      rw (le-ltb j (slab .bays .y) h) (sym (rw (← bays-of f (p .surveyed .shared) Y .0) (done true j (slab .bays .y) (thinRow f) l h e)))
+
+  pub one-thin : {i j : ℕ} → i < slab .bays .x → j < slab .bays .y → thinPanel f i j ≡ true → ltb j (slab .bays .y) ≡ somePanel f (thinPanel f)
+  unfolding somePair
+  one-thin {i} {j} hi hj e =
+      let row : thinRow f j ≡ true = rw (← bays-of f (p .surveyed .shared) X .0) (found true (slab .bays .x) i (λ k. thinPanel f k j) hi e) in
+      rw (lt-ltb j (slab .bays .y) hj) (sym (rw (← bays-of f (p .surveyed .shared) Y .0) (found true (slab .bays .y) j (thinRow f) hj row)))
 
 -- too thin is not thick enough
 pub thin-is : (f : List ℕ) (i j : ℕ) {r b : Bool} → r ≡ leb (panelThickness f i j) (thickness f) → not r ≡ b → thinPanel f i j ≡ b

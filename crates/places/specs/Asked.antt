@@ -9,9 +9,7 @@ use Rattle.plan.specs.declared.read.Bays.{Bays}
 use Rattle.plan.specs.Plan.{bays}
 use Rattle.plan.specs.Asked.{Sized}
 use Rattle.floor.specs.Refusal.{refusal}
-use Rattle.lines.specs.declared.slab.Slab.{Slab}
 use Rattle.lines.specs.Rows.{Spans}
-use Rattle.lines.specs.Asked.{Ready}
 use Rattle.places.specs.Adjoining.{Adjoining}
 
 -- the n spans along d of an accepted floor
@@ -39,8 +37,3 @@ pub record ColumnRow (f : List ℕ) (b : Bays) (x y : List ℕ) (j : ℕ) : Type
 pub record AtColumn (f : List ℕ) (b : Bays) (x y : List ℕ) (i j : ℕ) : Type 0 where
   pub row : ColumnRow f b x y j
   pub y-line : i ≤ b .x
-
--- the panels of y bay j
-pub record PanelRow (f : List ℕ) (slab : Slab) (s a : List (List ℕ)) (j : ℕ) : Type 0 where
-  pub ready : Ready f slab s a
-  pub y-bay : j < slab .bays .y

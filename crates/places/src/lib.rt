@@ -8,7 +8,7 @@ ghost use Rattle.plan.specs.Plan.{bays};
 ghost use Rattle.lines.specs.Asked.{Surveyed, Ready};
 ghost use Rattle.limits.specs.Limits.{somePanel, uneven, lesserAt, astrayColumn, astray, thinPanel};
 ghost use Rattle.places.specs.Adjoining.{Adjoining};
-ghost use Rattle.places.specs.Asked.{SpansAlong, EndOf, Columns, ColumnRow, AtColumn, PanelRow};
+ghost use Rattle.places.specs.Asked.{SpansAlong, EndOf, Columns, ColumnRow, AtColumn};
 use limits::exceeds;
 use limits::unlike;
 use lines::line::X;
@@ -115,39 +115,24 @@ pub fn astray(f: &[u8], slab: Slab, spans: &[[u64; 13]; 2]) -> bool
     some_astray(f, slab.bays, &x, &y)
 }
 
-fn thin_in_row(
-    f: &[u8],
-    slab: Slab,
-    spans: &[[u64; 13]; 2],
-    alphas: &[[u64; 13]; 2],
-    j: u32,
-) -> bool
-    requires { ⌜ PanelRow (now f) slab (now spans) (now alphas) j ⌝ }
-    ensures { λ r. ⌜ r ≡ some (bays (now (f .entry)) X) (λ i. thinPanel (now (f .entry)) i j) ⌝ }
-{
-    let n = slab.bays.x;
-    let mut i: u32 = 0;
-    while i < n {
-        if !thick_enough(f, slab, spans, alphas, i, j) {
-            return true;
-        }
-        i += 1;
-    }
-    false
-}
-
-// 64
+// 64: the panels row by row, left at the first for which the slab is too thin.
 pub fn thin(f: &[u8], slab: Slab, spans: &[[u64; 13]; 2], alphas: &[[u64; 13]; 2]) -> bool
     requires { ⌜ Ready (now f) slab (now spans) (now alphas) ⌝ }
     ensures { λ r. ⌜ r ≡ somePanel (now (f .entry)) (thinPanel (now (f .entry))) ⌝ }
 {
-    let n = slab.bays.y;
+    let nx = slab.bays.x;
+    let ny = slab.bays.y;
     let mut j: u32 = 0;
-    while j < n {
-        if thin_in_row(f, slab, spans, alphas, j) {
-            return true;
+    'rows: while j < ny {
+        let mut i: u32 = 0;
+        'panels: while i < nx {
+            if !thick_enough(f, slab, spans, alphas, i, j) {
+                break 'rows;
+            }
+            i += 1;
         }
         j += 1;
     }
-    false
+    // Left before the last row was passed: some panel is too thin.
+    j < ny
 }

@@ -12,11 +12,11 @@ use Rattle.lines.proofs.Slabs.{bays-of, loads-of}
 use Rattle.limits.specs.Limits.{somePanel, few, slenderPanel, uneven, astray, overloaded, heavy, unbalanced, thinPanel, sumOf, verdict}
 
 module _ (f : List ℕ) {slab : Slab} (shared : slab ≡ slabOf f) where
-  few-is : {a : Bool} → a ≡ (ltb (slab .bays .x) 3 || ltb (slab .bays .y) 3) → a ≡ few f
+  pub few-is : {a : Bool} → a ≡ (ltb (slab .bays .x) 3 || ltb (slab .bays .y) 3) → a ≡ few f
   unfolding few
   few-is e = cc (bays-of f shared X .0, bays-of f shared Y .0)
 
-  heavy-is : {e : Bool} → e ≡ overloaded (slab .dead) (slab .live) → e ≡ heavy f
+  pub heavy-is : {e : Bool} → e ≡ overloaded (slab .dead) (slab .live) → e ≡ heavy f
   unfolding heavy
   heavy-is q = cc (loads-of f shared .0, loads-of f shared .1)
 

@@ -1,10 +1,11 @@
-//! The rules of 01, and requests One to Three of 02, in plain Rust written for speed: what the proved library is
+//! The rules of 01, and requests One to Four of 02, in plain Rust written for speed: what the proved library is
 //! timed against.
 //!
-//! The four calls are the library's. Each reads the floor's bytes once into fixed arrays and works from
+//! The five calls are the library's. Each reads the floor's bytes once into fixed arrays and works from
 //! these; nothing is kept between calls. Every number of 01 fits 64 bits.
 
 mod change;
+mod clear;
 mod file;
 mod floor;
 mod frames;
@@ -114,4 +115,16 @@ fn panel_thickness(bytes: &[u8], x: u64, y: u64) -> Result<u32, u32> {
         return Err(10);
     }
     Ok(thickness::least(&floor, layout, x as usize, y as usize))
+}
+
+/// Whether a floor is clear: 1 yes, 0 no.
+pub fn clear(floor: &[u8]) -> Answer {
+    Answer::of(yes_or_no(floor), 0)
+}
+
+/// "There is no table here, so only 1 to 7 are tried." (02, Four)
+fn yes_or_no(bytes: &[u8]) -> Result<u32, u32> {
+    let floor = file::read(bytes)?;
+    let layout = judge::judge(&floor)?;
+    Ok(clear::clear(&floor, layout).into())
 }

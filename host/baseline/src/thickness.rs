@@ -90,52 +90,83 @@ pub fn too_thin(floor: &Floor, layout: Layout, stiffness: &Stiffness) -> bool {
 
 /// A bay of a direction, with the two lines beside it.
 #[derive(Clone, Copy, Default)]
-struct Bay {
+pub struct Bay {
     clear: u32,
     /// With beams everywhere the sum of their α.
-    beside: u64,
+    pub beside: u64,
     weak: bool,
 }
 
-fn bays(floor: &Floor, layout: Layout, way: usize, stiffness: &Stiffness) -> [Bay; MOST_BAYS] {
-    let alphas = &stiffness.0[1 - way];
-    let mut bays = [Bay::default(); MOST_BAYS];
-    for (bay, place) in bays[..floor.bays[way]].iter_mut().enumerate() {
-        let beside = [alphas[bay], alphas[bay + 1]];
-        *place = Bay {
+impl Bay {
+    pub fn of(floor: &Floor, layout: Layout, way: usize, bay: usize, beside: [u64; 2]) -> Bay {
+        Bay {
             clear: clear(floor, way, bay),
             beside: match layout {
                 Layout::Everywhere => beside[0] + beside[1],
                 _ => 0,
             },
             weak: weak_edge(beside, bay, floor.bays[way]),
-        };
+        }
+    }
+}
+
+fn bays(floor: &Floor, layout: Layout, way: usize, stiffness: &Stiffness) -> [Bay; MOST_BAYS] {
+    let alphas = &stiffness.0[1 - way];
+    let mut bays = [Bay::default(); MOST_BAYS];
+    for (bay, place) in bays[..floor.bays[way]].iter_mut().enumerate() {
+        *place = Bay::of(floor, layout, way, bay, [alphas[bay], alphas[bay + 1]]);
     }
     bays
 }
 
-/// "10t ≥ 11 times the answer of 01" where 10t/11, rounded down, is not below that answer.
+/// What all panels share.
+pub struct Slab {
+    t: u64,
+    /// "10t ≥ 11 times the answer of 01" where 10t/11, rounded down, is not below that answer.
+    at_weak_edges: u64,
+    fy: u32,
+    n: u32,
+    n_at_weak_edges: u32,
+}
+
+impl Slab {
+    pub fn of(floor: &Floor) -> Slab {
+        let t = u64::from(floor.t);
+        Slab {
+            t,
+            at_weak_edges: 10 * t / 11,
+            fy: floor.fy,
+            n: n(floor.fy, false),
+            n_at_weak_edges: n(floor.fy, true),
+        }
+    }
+
+    /// For the panel where two bays cross.
+    pub fn thin(&self, column: &Bay, row: &Bay) -> bool {
+        let s = column.beside + row.beside;
+        let (mut t, mut n) = (self.t, self.n);
+        if column.weak || row.weak {
+            n = self.n_at_weak_edges;
+            if s > 8_000 {
+                t = self.at_weak_edges;
+            }
+        }
+        let asked = asked(s, column.clear, row.clear, self.fy, n);
+        t * asked.factor < asked.load || t < asked.least
+    }
+}
+
 fn too_thin_with_beams(floor: &Floor, layout: Layout, stiffness: &Stiffness) -> bool {
-    let t = u64::from(floor.t);
-    let at_weak_edges = 10 * t / 11;
-    let [with, without] = [false, true].map(|bare| n(floor.fy, bare));
+    let slab = Slab::of(floor);
     let columns = &bays(floor, layout, X, stiffness)[..floor.bays[X]];
     let rows = &bays(floor, layout, Y, stiffness)[..floor.bays[Y]];
-    let thin = |column: &Bay, row: &Bay| {
-        let s = column.beside + row.beside;
-        let weak = column.weak || row.weak;
-        let n = if weak { without } else { with };
-        let asked = asked(s, column.clear, row.clear, floor.fy, n);
-        let t = if weak && s > 8_000 { at_weak_edges } else { t };
-        t * asked.factor < asked.load || t < asked.least
-    };
     rows.iter()
-        .any(|row| columns.iter().any(|column| thin(column, row)))
+        .any(|row| columns.iter().any(|column| slab.thin(column, row)))
 }
 
 /// No inner panel asks for more than an outer one of the same ln, and every span lies in an outer panel: the longest clear
 /// span decides.
-fn too_thin_without(floor: &Floor) -> bool {
+pub fn too_thin_without(floor: &Floor) -> bool {
     let longest = |way: usize| {
         let span = floor.spans(way).iter().max();
         span.map_or(0, |span| span - floor.column[way])

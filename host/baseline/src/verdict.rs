@@ -6,11 +6,11 @@ use crate::lines::Stiffness;
 use crate::thickness::too_thin;
 
 pub fn verdict(floor: &Floor, layout: Layout, stiffness: &Stiffness) -> u32 {
-    u32::from(floor.bays[X] < 3 || floor.bays[Y] < 3)
+    u32::from(too_few(floor))
         + 2 * u32::from(too_long(floor))
         + 4 * u32::from(too_different(floor.spans(X)) || too_different(floor.spans(Y)))
         + 8 * u32::from(too_far_off(floor, X) || too_far_off(floor, Y))
-        + 16 * u32::from(floor.live > 2 * floor.dead)
+        + 16 * u32::from(too_heavy(floor))
         + 32 * u32::from(layout == Layout::Everywhere && too_unlike(floor, stiffness))
         + 64 * u32::from(too_thin(floor, layout, stiffness))
 }
@@ -18,19 +18,28 @@ pub fn verdict(floor: &Floor, layout: Layout, stiffness: &Stiffness) -> u32 {
 /// The least and the largest.
 fn ends<T: Ord + Copy>(numbers: &[T]) -> (T, T) {
     let first = (numbers[0], numbers[0]);
-    let wider = |(low, high): (T, T), &number: &T| (number.min(low), number.max(high));
-    numbers.iter().fold(first, wider)
+    numbers.iter().copied().fold(first, wider)
+}
+
+/// The least and the largest with one number more.
+pub fn wider<T: Ord + Copy>((least, most): (T, T), number: T) -> (T, T) {
+    (number.min(least), number.max(most))
+}
+
+/// 1: "nx or ny below 3."
+pub fn too_few(floor: &Floor) -> bool {
+    floor.bays[X] < 3 || floor.bays[Y] < 3
 }
 
 /// 2: "in a panel, longer span > 2·shorter." Every x span meets every y span in a panel.
-fn too_long(floor: &Floor) -> bool {
+pub fn too_long(floor: &Floor) -> bool {
     let (least_x, most_x) = ends(floor.spans(X));
     let (least_y, most_y) = ends(floor.spans(Y));
     most_x > 2 * least_y || most_y > 2 * least_x
 }
 
 /// 4: "for neighbouring spans in a direction, 3(longer − shorter) > longer."
-fn too_different(spans: &[u32]) -> bool {
+pub fn too_different(spans: &[u32]) -> bool {
     spans.windows(2).any(|pair| {
         let (shorter, longer) = ends(pair);
         3 * (longer - shorter) > longer
@@ -38,7 +47,7 @@ fn too_different(spans: &[u32]) -> bool {
 }
 
 /// 8: "ten times an offset exceeds a span adjoining that column in its direction."
-fn too_far_off(floor: &Floor, way: usize) -> bool {
+pub fn too_far_off(floor: &Floor, way: usize) -> bool {
     let spans = floor.spans(way);
     // The shorter span that adjoins each line across the direction.
     let mut adjoining = [u32::MAX; MOST_LINES];
@@ -61,19 +70,34 @@ fn too_far_off(floor: &Floor, way: usize) -> bool {
     }
 }
 
+/// 16: "L > 2D."
+pub fn too_heavy(floor: &Floor) -> bool {
+    floor.live > 2 * floor.dead
+}
+
+/// "(sum of α of its two x lines)·Y²", of a bay that lies between the two lines.
+pub fn sum_by_square(beside: u64, span: u32) -> u64 {
+    beside * u64::from(span).pow(2)
+}
+
+/// "p > 5q or q > 5p", of the panels in which each p meets each q: the least and the largest of either decide.
+pub fn apart((least_p, most_p): (u64, u64), (least_q, most_q): (u64, u64)) -> bool {
+    most_p > 5 * least_q || most_q > 5 * least_p
+}
+
 /// 32: "in a panel p > 5q or q > 5p": p is the same along a row of panels and q along a column of them.
 fn too_unlike(floor: &Floor, stiffness: &Stiffness) -> bool {
     let Stiffness([x, y]) = stiffness;
     let mut sides = [0; MOST_BAYS];
-    let (least_p, most_p) = sums_by_squares(&mut sides, x, floor.spans(Y));
-    let (least_q, most_q) = sums_by_squares(&mut sides, y, floor.spans(X));
-    most_p > 5 * least_q || most_q > 5 * least_p
+    let p = sums_by_squares(&mut sides, x, floor.spans(Y));
+    let q = sums_by_squares(&mut sides, y, floor.spans(X));
+    apart(p, q)
 }
 
-/// "(sum of α of its two x lines)·Y²", the least and the largest.
+/// The least and the largest.
 fn sums_by_squares(room: &mut [u64; MOST_BAYS], alphas: &[u64], spans: &[u32]) -> (u64, u64) {
     for (bay, &span) in spans.iter().enumerate() {
-        room[bay] = (alphas[bay] + alphas[bay + 1]) * u64::from(span).pow(2);
+        room[bay] = sum_by_square(alphas[bay] + alphas[bay + 1], span);
     }
     ends(&room[..spans.len()])
 }

@@ -9,25 +9,32 @@ use cases::runs::{self, play, Played, Run};
 use reference::floor_file::RECORD_BYTES;
 use reference::panel;
 use reference::steel;
+use reference::verdict;
 
 fn answer(given: Answer) -> (u128, u128) {
     (given.refusal.into(), given.value.into())
 }
 
+/// "Yes exactly when the full verdict is 0; a refused floor answers no with its number." (02, Four)
+fn hold_clear(description: &str, floor: &[u8]) {
+    let (refused, verdict) = verdict::judge(floor);
+    let right = (refused, (verdict == 0).into());
+    assert_eq!(answer(baseline::clear(floor)), right, "{description}");
+}
+
+/// Every floor on the way is asked whether it is clear.
 fn played(run: &Run) -> Played {
     let (mut floor, mut table) = (run.floor.clone(), run.table.clone());
     let mut governing = run.governing.clone();
+    hold_clear(&run.description, &floor);
     let opening = run
         .opens
         .then(|| answer(baseline::open(&floor, &mut table, &mut governing)));
     let changes = run.changes.iter();
     let changes = changes.map(|change| {
-        answer(baseline::change(
-            &mut floor,
-            &mut table,
-            &mut governing,
-            change,
-        ))
+        let given = baseline::change(&mut floor, &mut table, &mut governing, change);
+        hold_clear(&run.description, &floor);
+        answer(given)
     });
     Played {
         opening,

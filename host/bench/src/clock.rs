@@ -51,6 +51,7 @@ fn twice<P: Product>(lent: &mut Lent, work: &Work) -> [Answer; 2] {
             )
         }
         Work::Panel(x, y) => P::panel(black_box(floor), black_box(*x), black_box(*y)),
+        Work::Clear => P::clear(black_box(floor)),
         Work::Steel(query) => P::steel(black_box(*query)),
     };
     [call(0), call(1)]

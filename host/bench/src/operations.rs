@@ -1,6 +1,7 @@
 //! The operations that are timed.
 
 mod changes;
+mod clear;
 mod openings;
 mod queries;
 
@@ -21,6 +22,7 @@ pub enum Work {
         place: usize,
     },
     Panel(u64, u64),
+    Clear,
     Steel(Query),
 }
 
@@ -41,6 +43,7 @@ pub fn at(size: Size) -> Vec<Operation> {
         changes::clear(size),
         changes::others(size),
         queries::panels(size),
+        clear::at(size),
     ]
     .into_iter()
     .flatten()
@@ -53,4 +56,11 @@ fn overloaded(floor: &Floor) -> Floor {
         live: 2 * floor.dead + 1,
         ..floor.clone()
     }
+}
+
+/// The floor with a value out of range in its last record, the last column's offset.
+fn out_of_range(floor: &Floor) -> Floor {
+    let mut floor = floor.clone();
+    floor.offsets.last_mut().expect("a column").1 = 12_001;
+    floor
 }

@@ -1,4 +1,4 @@
-//! The two products that are timed, behind the same four calls.
+//! The two products that are timed, behind the same five calls.
 
 /// Refusal and value.
 pub type Answer = (u32, u32);
@@ -10,6 +10,7 @@ pub trait Product {
     fn open(floor: &[u8], table: &mut [u32], governing: &mut [u32]) -> Answer;
     fn change(floor: &mut [u8], table: &mut [u32], governing: &mut [u32], change: &[u8]) -> Answer;
     fn panel(floor: &[u8], x: u64, y: u64) -> Answer;
+    fn clear(floor: &[u8]) -> Answer;
     fn steel(query: Query) -> Answer;
 }
 
@@ -35,6 +36,11 @@ macro_rules! product {
 
             fn panel(floor: &[u8], x: u64, y: u64) -> Answer {
                 let answer = $library::panel(floor, x, y);
+                (answer.refusal, answer.value)
+            }
+
+            fn clear(floor: &[u8]) -> Answer {
+                let answer = $library::clear(floor);
                 (answer.refusal, answer.value)
             }
 

@@ -6,6 +6,7 @@ pub mod drawn;
 mod edges;
 pub mod long;
 pub mod refused;
+pub mod single;
 pub mod small;
 mod spoilt;
 pub mod tied;

@@ -1,16 +1,19 @@
-//! Floors, each opened on a lent table and a governing slice of any numbers, and asked for every panel.
+//! Floors, each opened on a lent table and a governing slice of any numbers, asked whether it is clear, and asked for
+//! every panel.
 
 mod beams;
 mod damage;
 mod drawn;
 mod edges;
 pub mod flips;
+mod single;
 pub mod weak;
 
 pub use damage::damaged;
 pub use drawn::floor;
 
 use crate::case::Case;
+use crate::clear;
 use crate::panels;
 use crate::same::{hex, same_answer};
 use crate::tally::{Counts, Opened, Tally};
@@ -24,8 +27,8 @@ use reference::refusals::{refusal, SUCCESS};
 use reference::{governing, span, table};
 
 /// Floors in a case: as drawn, at the edge of a limit and past it, at an edge of beams and past it, with an outer
-/// line just strong enough and just too weak, with a tie, damaged.
-pub const FLOORS: u64 = 4 + 2 + 2 + 2 + 1 + 2;
+/// line just strong enough and just too weak, with a tie, damaged, clear but for one place.
+pub const FLOORS: u64 = 4 + 2 + 2 + 2 + 1 + 2 + 2;
 
 pub fn case(case: &mut Case) -> Result<(), String> {
     let drawn: [_; 4] = std::array::from_fn(|_| floor(&mut case.draw));
@@ -46,6 +49,10 @@ pub fn case(case: &mut Case) -> Result<(), String> {
     for floor in &drawn[2..] {
         let (words, bytes) = damaged(&mut case.draw, &floor.bytes());
         spoilt(case, words, &bytes)?;
+    }
+    for _ in 0..2 {
+        let (one, floor) = single::single(&mut case.draw);
+        clear_but_for_one(case, &format!("clear but for {one:?}"), &floor.bytes())?;
     }
     Ok(())
 }
@@ -84,6 +91,13 @@ pub fn undamaged(case: &mut Case, words: &str, floor: &[u8]) -> Result<(), Strin
     Ok(())
 }
 
+/// Counted apart: none of them is clear.
+fn clear_but_for_one(case: &mut Case, words: &str, floor: &[u8]) -> Result<(), String> {
+    let opened = compare(case, words, floor)?;
+    case.tally.single.add(opened);
+    Ok(())
+}
+
 /// Counted apart from the floors that somebody drew.
 pub fn spoilt(case: &mut Case, words: &str, floor: &[u8]) -> Result<(), String> {
     let opened = compare(case, words, floor)?;
@@ -103,6 +117,7 @@ fn compare(case: &mut Case, words: &str, floor: &[u8]) -> Result<Opened, String>
         .and_then(|()| table.holds("table", &right_table))
         .and_then(|()| slice.holds("governing", &right_slice))
         .map_err(|words| format!("opening: {words}"))
+        .and_then(|()| clear::compare(case, floor, &lent))
         .and_then(|()| panels::compare(case, floor, &lent))
         .map_err(|error| format!("floor {words}: {error}\n{}", hex(floor)))?;
     case.tally.floor_addresses.add(lent.address());

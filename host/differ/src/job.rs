@@ -8,12 +8,13 @@ use gandhrumil::{Answer, Query};
 pub type Open = fn(&[u8], &mut [u32], &mut [u32]) -> Answer;
 pub type Change = fn(&mut [u8], &mut [u32], &mut [u32], &[u8]) -> Answer;
 
-/// The four calls, which a test may put wrong ones in place of.
+/// The five calls, which a test may put wrong ones in place of.
 #[derive(Clone, Copy)]
 pub struct Calls {
     pub open: Open,
     pub change: Change,
     pub panel: fn(&[u8], u64, u64) -> Answer,
+    pub clear: fn(&[u8]) -> Answer,
     pub steel: fn(Query) -> Answer,
 }
 
@@ -21,6 +22,7 @@ pub const LIBRARY: Calls = Calls {
     open: gandhrumil::open,
     change: gandhrumil::change,
     panel: gandhrumil::panel,
+    clear: gandhrumil::clear,
     steel: gandhrumil::steel,
 };
 

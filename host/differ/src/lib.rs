@@ -5,6 +5,7 @@
 //! part and number bring it back, and how many threads there are alters nothing.
 
 pub mod case;
+pub mod clear;
 pub mod floors;
 pub mod job;
 pub mod lent;

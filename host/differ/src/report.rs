@@ -1,6 +1,6 @@
 //! The counts in words.
 
-use crate::tally::{Before, Counts, Opened, Step, Tally};
+use crate::tally::{Before, Counts, Opened, Said, Step, Tally};
 use std::fmt::Display;
 
 /// 1234567 as 1,234,567.
@@ -25,19 +25,19 @@ fn listed<K: Ord + Display>(counts: &Counts<K>) -> String {
     pairs.join(", ")
 }
 
-/// The refusals alone, by their number.
-fn refused<K: Ord>(counts: &Counts<K>, number: impl Fn(&K) -> u128) -> Counts<u128> {
-    let mut refused = Counts::default();
+/// Those alone that have a number, as refusals and limits have, and 0 stands for none.
+fn numbered<K: Ord>(counts: &Counts<K>, number: impl Fn(&K) -> u128) -> Counts<u128> {
+    let mut numbered = Counts::default();
     for (key, count) in counts.iter() {
         if number(key) != 0 {
-            refused.add_many(number(key), count);
+            numbered.add_many(number(key), count);
         }
     }
-    refused
+    numbered
 }
 
 fn opened(words: &str, counts: &Counts<Opened>) -> String {
-    let refused = refused(counts, |opened| match opened {
+    let refused = numbered(counts, |opened| match opened {
         Opened::Refused(number) => *number,
         _ => 0,
     });
@@ -53,9 +53,10 @@ fn opened(words: &str, counts: &Counts<Opened>) -> String {
 
 fn floors(tally: &Tally) -> String {
     format!(
-        "floors: {}\n{}{}  limits broken: {}\n  clear floors: {}; {} choices of sides\n  bays: {} pairs, 12 by 12 {} times\n  beams: {}\n",
+        "floors: {}\n{}{}{}  limits broken: {}\n  clear floors: {}; {} choices of sides\n  bays: {} pairs, 12 by 12 {} times\n  beams: {}\n",
         grouped(tally.floors()),
         opened("undamaged", &tally.undamaged),
+        opened("clear but for one place", &tally.single),
         opened("damaged", &tally.damaged),
         listed(&tally.limits),
         listed(&tally.layouts),
@@ -67,7 +68,7 @@ fn floors(tally: &Tally) -> String {
 }
 
 fn queries(name: &str, counts: &Counts<u128>) -> String {
-    let refused = refused(counts, |&number| number);
+    let refused = numbered(counts, |&number| number);
     format!(
         "{name}: {}, of them {} answered, {} refused ({})\n",
         grouped(counts.total()),
@@ -77,9 +78,30 @@ fn queries(name: &str, counts: &Counts<u128>) -> String {
     )
 }
 
+fn clear(said: &Counts<Said>) -> String {
+    let one_place = numbered(said, |said| match said {
+        Said::NoByOnePlace(limit) => *limit,
+        _ => 0,
+    });
+    let refused = numbered(said, |said| match said {
+        Said::Refused(number) => *number,
+        _ => 0,
+    });
+    format!(
+        "asked whether clear: {}, of them {} yes, {} no, {} refused ({})\n  no by one place alone: {} (limit {})\n",
+        grouped(said.total()),
+        grouped(said.of(&Said::Yes)),
+        grouped(said.of(&Said::No) + one_place.total()),
+        grouped(refused.total()),
+        listed(&refused),
+        grouped(one_place.total()),
+        listed(&one_place),
+    )
+}
+
 fn changes(tally: &Tally) -> String {
     let steps = &tally.changes;
-    let refused = refused(steps, |step| match step {
+    let refused = numbered(steps, |step| match step {
         Step::Refused(number) => *number,
         _ => 0,
     });
@@ -113,6 +135,7 @@ fn changes(tally: &Tally) -> String {
 pub fn report(tally: &Tally) -> String {
     [
         floors(tally),
+        clear(&tally.clear),
         queries("panel queries", &tally.panels),
         changes(tally),
         queries("steel queries", &tally.steel),

@@ -64,6 +64,17 @@ pub enum Opened {
     Refused(u128),
 }
 
+/// What a floor is told that is asked whether it is clear.
+#[derive(Clone, Copy, Debug, PartialEq, Eq, PartialOrd, Ord)]
+pub enum Said {
+    Yes,
+    /// For two places or more.
+    No,
+    /// And the limit that is broken there.
+    NoByOnePlace(u128),
+    Refused(u128),
+}
+
 /// What decides how stiff a beam's flange is, how stiff beams are to be (02, Two), and which edges are weak (02,
 /// Three).
 #[derive(Clone, Copy, Debug, PartialEq, Eq, PartialOrd, Ord)]
@@ -128,6 +139,8 @@ pub struct Before {
 pub struct Tally {
     /// Floors that were drawn, and are as they were drawn or at the edge of a limit.
     pub undamaged: Counts<Opened>,
+    /// And those that are clear but for one place.
+    pub single: Counts<Opened>,
     pub damaged: Counts<Opened>,
     /// Of the floors that are not refused: the limits that they break, and bays.
     pub limits: Counts<u128>,
@@ -137,6 +150,7 @@ pub struct Tally {
     /// Of the clear ones.
     pub layouts: Counts<&'static str>,
     pub sides: Counts<u128>,
+    pub clear: Counts<Said>,
     /// Panel queries, by their refusal or 0.
     pub panels: Counts<u128>,
     pub changes: Counts<Step>,
@@ -156,12 +170,14 @@ pub struct Tally {
 impl Tally {
     pub fn merge(&mut self, other: Tally) {
         self.undamaged.merge(other.undamaged);
+        self.single.merge(other.single);
         self.damaged.merge(other.damaged);
         self.limits.merge(other.limits);
         self.bays.merge(other.bays);
         self.beams.merge(other.beams);
         self.layouts.merge(other.layouts);
         self.sides.merge(other.sides);
+        self.clear.merge(other.clear);
         self.panels.merge(other.panels);
         self.changes.merge(other.changes);
         self.kept_clear.merge(other.kept_clear);
@@ -174,6 +190,6 @@ impl Tally {
     }
 
     pub fn floors(&self) -> u64 {
-        self.undamaged.total() + self.damaged.total()
+        self.undamaged.total() + self.single.total() + self.damaged.total()
     }
 }

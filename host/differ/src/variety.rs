@@ -1,6 +1,6 @@
 //! What a comparison should have met and has not: a generator that decays is noticed.
 
-use crate::tally::{BeamSort, Before, Counts, Opened, Step, Tally};
+use crate::tally::{BeamSort, Before, Counts, Opened, Said, Step, Tally};
 use cases::runs::changes::KINDS;
 use std::collections::BTreeSet;
 
@@ -61,6 +61,16 @@ fn rare_beams(tally: &Tally) -> Vec<String> {
         .collect()
 }
 
+fn missing_of_clear(tally: &Tally) -> Vec<String> {
+    let one_place = [1, 2, 4, 8, 16, 32, 64].map(Said::NoByOnePlace);
+    let refused = (1..=7).map(Said::Refused);
+    let wanted = [Said::Yes, Said::No].into_iter();
+    let wanted = wanted.chain(one_place).chain(refused);
+    missing(&tally.clear, wanted, |said| {
+        format!("a floor asked whether it is clear: {said:?}")
+    })
+}
+
 pub fn floors(tally: &Tally) -> Vec<String> {
     let refused = |number| Opened::Refused(number);
     let clear = tally.undamaged.of(&Opened::Clear);
@@ -79,6 +89,7 @@ pub fn floors(tally: &Tally) -> Vec<String> {
         missing(&tally.damaged, (1..=8).chain([13]).map(refused), |opened| {
             format!("a damaged floor: {opened:?}")
         }),
+        missing_of_clear(tally),
         missing(&tally.panels, [0, 1, 2, 3, 4, 5, 6, 7, 10], |number| {
             format!("a panel query: refusal {number}")
         }),

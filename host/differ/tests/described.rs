@@ -32,6 +32,7 @@ fn compare_all<T>(
 #[test]
 fn floors_and_inputs_longer_than_any_floor() {
     let mut described = cases::floors::all();
+    described.extend(cases::floors::single::floors());
     described.extend(cases::floors::long::inputs());
     let tally = compare_all(
         &described,
@@ -39,6 +40,7 @@ fn floors_and_inputs_longer_than_any_floor() {
         |case, floor| floors::undamaged(case, "described", &floor.bytes),
     );
     assert_eq!(tally.floors(), described.len() as u64);
+    assert_eq!(tally.clear.total(), described.len() as u64);
 }
 
 /// Each floor file is opened, with room enough for any table and slice, then changed where a change comes with it.
@@ -65,6 +67,7 @@ fn cases_of_every_refusal() {
     let changes = described.iter().filter(|listed| listed.change.is_some());
     assert_eq!(tally.changes.total(), changes.count() as u64);
     assert!(tally.panels.total() > described.len() as u64);
+    assert!(tally.clear.total() >= described.len() as u64);
 }
 
 #[test]
@@ -73,6 +76,7 @@ fn changes() {
     let tally = compare_all(&described, |run| &run.description, runs::replay);
     let changes: usize = described.iter().map(|run| run.changes.len()).sum();
     assert_eq!(tally.changes.total(), changes as u64);
+    assert!(tally.clear.total() > changes as u64);
 }
 
 #[test]

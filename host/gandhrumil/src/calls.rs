@@ -31,5 +31,7 @@ extern "C" {
 
     pub fn gandhrumil_panel(floor: *const u8, floor_len: usize, x: u64, y: u64) -> Answer;
 
+    pub fn gandhrumil_clear(floor: *const u8, floor_len: usize) -> Answer;
+
     pub fn gandhrumil_steel(m: u64, b: u64, t: u64, d: u64, fc: u64, fy: u64) -> Answer;
 }

@@ -1,4 +1,4 @@
-//! The four calls of the static library (`include/gandhrumil.h`), as safe functions of slices.
+//! The five calls of the static library (`include/gandhrumil.h`), as safe functions of slices.
 //!
 //! Every call takes any bytes, any lengths and any numbers. What each answers and writes is said in the header, and proved.
 
@@ -7,7 +7,7 @@ mod calls;
 pub use calls::Answer;
 
 /// `GANDHRUMIL_VERSION` of the header whose calls these are (docs/CHANGES.md).
-pub const VERSION: u32 = 4;
+pub const VERSION: u32 = 5;
 
 /// Opens a floor and fills its table, and the governing moments beside it.
 pub fn open(floor: &[u8], table: &mut [u32], governing: &mut [u32]) -> Answer {
@@ -45,6 +45,12 @@ pub fn change(floor: &mut [u8], table: &mut [u32], governing: &mut [u32], change
 pub fn panel(floor: &[u8], x: u64, y: u64) -> Answer {
     // SAFETY: the slice is lent for the call, with its own length.
     unsafe { calls::gandhrumil_panel(floor.as_ptr(), floor.len(), x, y) }
+}
+
+/// Whether a floor is clear: 1 yes, 0 no.
+pub fn clear(floor: &[u8]) -> Answer {
+    // SAFETY: the slice is lent for the call, with its own length.
+    unsafe { calls::gandhrumil_clear(floor.as_ptr(), floor.len()) }
 }
 
 /// A steel query: the moment in N·cm; width, thickness and depth in mm; concrete and steel in MPa.

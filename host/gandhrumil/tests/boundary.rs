@@ -46,12 +46,12 @@ fn a_pointer_may_be_anything_where_its_length_is_0() {
 }
 
 #[test]
-fn the_four_calls_from_c() {
+fn the_five_calls_from_c() {
     run("figures", C);
 }
 
 #[test]
-fn the_four_calls_from_cpp() {
+fn the_five_calls_from_cpp() {
     run("figures", CPP);
 }
 

@@ -1,4 +1,4 @@
-//! The rules of 01, and requests One to Three of 02, *Later changes to the base*, written as plainly as they
+//! The rules of 01, and requests One to Four of 02, *Later changes to the base*, written as plainly as they
 //! read.
 //!
 //! Speed and memory count for nothing here. Each rule stands under the sentence of 01 or 02 it follows,
@@ -7,6 +7,7 @@
 //! `host/cases`.
 
 pub mod change;
+pub mod clear;
 pub mod floor_file;
 pub mod frame;
 pub mod governing;

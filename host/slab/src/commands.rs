@@ -2,6 +2,7 @@
 
 pub mod arguments;
 pub mod check;
+pub mod clear;
 pub mod help;
 pub mod make;
 pub mod text;
@@ -37,10 +38,11 @@ pub struct Command {
     pub run: fn(&[OsString]) -> Ended,
 }
 
-pub const COMMANDS: [&Command; 4] = [
+pub const COMMANDS: [&Command; 5] = [
     &make::COMMAND,
     &text::COMMAND,
     &check::COMMAND,
+    &clear::COMMAND,
     &help::COMMAND,
 ];
 

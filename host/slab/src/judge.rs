@@ -20,9 +20,24 @@ pub struct Accepted {
     pub least: Vec<Vec<u32>>,
 }
 
-/// 1 to 7, or 0: a panel query tries these, and every floor has its first panel.
+pub enum Clear {
+    Yes,
+    No,
+    Refused(u32),
+}
+
+pub fn clear(file: &[u8]) -> Clear {
+    let answer = gandhrumil::clear(file);
+    match (answer.refusal, answer.value) {
+        (0, 1) => Clear::Yes,
+        (0, _) => Clear::No,
+        (refused, _) => Clear::Refused(refused),
+    }
+}
+
+/// 1 to 7, or 0: "There is no table here, so only 1 to 7 are tried." (02, Four)
 pub fn refusal(file: &[u8]) -> u32 {
-    gandhrumil::panel(file, 0, 0).refusal
+    gandhrumil::clear(file).refusal
 }
 
 /// The moments, those of the table and the governing ones, are dropped unread.

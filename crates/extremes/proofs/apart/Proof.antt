@@ -1,8 +1,7 @@
--- Each callee's equation in turn; a value by k fits.
+-- The ends of either list decide (Panels).
 -- Assumes nothing.
 use borrow.Author.Needs.{needs}
-use Rattle.numbers.proofs.Bounded.{_⊗_, fits}
-use Rattle.extremes.proofs.Panels.{least-most, apart-is}
+use Rattle.extremes.proofs.Panels.{ends-in, apart-is}
 use Rattle.extremes.proofs.apart.Statement.{statement}
 use Rattle.extremes.proofs.apart.Tie as tie
 
@@ -12,7 +11,7 @@ apart-spec =
     (tie.spec
     (λ c κs. search needs)
     (λ c κs. search needs)
-    (λ c. let p = c .before .before .before .pre in fits (p .1 .1 .most ⊗ least-most (p .1 .0) (c .before .ends-of2 .ensures)) tt)
-    (λ c. let p = c .before .before .before .before .before .pre in fits (p .1 .1 .most ⊗ least-most (p .0) (c .before .before .before .before .ends-of .ensures)) tt)
-    (λ c κs. search needs)
-    (λ c. let p = c .before .before .before .before .before .before .before .pre in apart-is _ (p .0) (p .1 .0) (c .before .before .before .before .before .before .ends-of .ensures) (c .before .before .before .before .before .ends-of2 .ensures) (c .either .ensures)))
+    (λ c κs. let p = c .before .before .pre in
+    (ends-in (p .0) (c .before .ends-of .ensures), (ends-in (p .1 .0) (c .ends-of2 .ensures), p .1 .1)))
+    (λ c. let p = c .before .before .before .pre in
+    apart-is _ (p .0) (p .1 .0) (c .before .before .ends-of .ensures) (c .before .ends-of2 .ensures) (c .ends-apart .ensures)))

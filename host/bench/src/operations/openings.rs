@@ -1,6 +1,6 @@
 //! Openings: clear, broken, refused.
 
-use super::{overloaded, Operation, Work};
+use super::{out_of_range, overloaded, Operation, Work};
 use crate::floors::{with_beams, without_beams};
 use crate::product::Answer;
 use crate::size::Size;
@@ -18,8 +18,7 @@ fn open(name: &'static str, floor: &Floor, answer: Answer, writes: usize) -> Ope
 
 pub fn at(size: Size) -> Vec<Operation> {
     let (bare, beams) = (without_beams(size), with_beams(size));
-    let mut late = beams.clone();
-    late.offsets.last_mut().expect("a column").1 = 12_001;
+    let late = out_of_range(&beams);
     let all = size.records();
     vec![
         open("open, clear, no beams", &bare, (0, 0), all),

@@ -6,14 +6,14 @@ use crate::product::{Answer, Query};
 use crate::size::Size;
 use floor::Floor;
 
-/// The panel at the same bay each way.
-fn panel(name: &'static str, floor: &Floor, bay: usize) -> Operation {
+/// The panel of an x bay and a y bay.
+fn panel(name: &'static str, floor: &Floor, (x, y): (usize, usize)) -> Operation {
     let floor = floor.bytes();
-    let (refused, least) = reference::panel::panel(&floor, bay as u128, bay as u128);
+    let (refused, least) = reference::panel::panel(&floor, x as u128, y as u128);
     Operation {
         name,
         floor,
-        work: Work::Panel(bay as u64, bay as u64),
+        work: Work::Panel(x as u64, y as u64),
         answer: (refused as u32, least as u32),
         writes: 0,
     }
@@ -21,10 +21,13 @@ fn panel(name: &'static str, floor: &Floor, bay: usize) -> Operation {
 
 pub fn panels(size: Size) -> Vec<Operation> {
     let (bare, beams) = (without_beams(size), with_beams(size));
+    let last = size.0 - 1;
     vec![
-        panel("panel, first, beams everywhere", &beams, 0),
-        panel("panel, last, beams everywhere", &beams, size.0 - 1),
-        panel("panel, first, no beams", &bare, 0),
+        panel("panel, first, beams everywhere", &beams, (0, 0)),
+        panel("panel, last, beams everywhere", &beams, (last, last)),
+        panel("panel, first, no beams", &bare, (0, 0)),
+        // 10 comes right after 1 to 7, and nothing is worked out for a panel that is not there.
+        panel("checks 1 to 7 (panel, refused 10)", &beams, (size.0, 0)),
     ]
 }
 

@@ -8,6 +8,7 @@ mod floor_refusals;
 mod floors;
 mod queries;
 mod runs;
+mod single;
 mod tables;
 mod weak;
 

@@ -7,7 +7,7 @@ use floor::Floor;
 use reference::layout::Layout;
 
 /// Mostly few bays, for what is worked out by the reference grows with their square.
-fn bays(draw: &mut Draw) -> (usize, usize) {
+pub fn bays(draw: &mut Draw) -> (usize, usize) {
     let (least, most) = match draw.between(1, 100) {
         1..=6 => return too_few_bays(draw),
         7 => (12, 12),

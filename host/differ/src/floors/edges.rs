@@ -40,11 +40,11 @@ pub fn both(at: Floor, alter: impl Fn(&mut Floor)) -> Option<(Floor, Floor)> {
     Some((at, past))
 }
 
-fn longest(spans: &[u32]) -> u32 {
+pub fn longest(spans: &[u32]) -> u32 {
     *spans.iter().max().expect("a bay")
 }
 
-fn without_offsets(floor: &Floor) -> Floor {
+pub fn without_offsets(floor: &Floor) -> Floor {
     Floor {
         offsets: vec![(0, 0); floor.offsets.len()],
         ..floor.clone()
@@ -68,7 +68,7 @@ fn panel_length(_: &mut Draw, floor: &Floor) -> Option<(Floor, Floor)> {
 }
 
 /// 4: "for neighbouring spans in a direction, 3(longer − shorter) > longer"
-fn neighbours(draw: &mut Draw, floor: &Floor) -> Option<(Floor, Floor)> {
+pub fn neighbours(draw: &mut Draw, floor: &Floor) -> Option<(Floor, Floor)> {
     let longer = longest(&floor.x_spans);
     let shorter = (2 * longer).div_ceil(60) * 20;
     let bays = floor.x_spans.len();
@@ -83,7 +83,7 @@ fn neighbours(draw: &mut Draw, floor: &Floor) -> Option<(Floor, Floor)> {
 }
 
 /// 8: "ten times an offset exceeds a span adjoining that column in its direction"
-fn offset(draw: &mut Draw, floor: &Floor) -> Option<(Floor, Floor)> {
+pub fn offset(draw: &mut Draw, floor: &Floor) -> Option<(Floor, Floor)> {
     let bays = floor.x_spans.len();
     let column = draw.between(0, floor.offsets.len() - 1);
     let line = column % (bays + 1);
@@ -106,7 +106,7 @@ fn live_load(draw: &mut Draw, floor: &Floor) -> Option<(Floor, Floor)> {
 }
 
 /// 64: "t below some panel's least thickness"
-fn thickness(_: &mut Draw, floor: &Floor) -> Option<(Floor, Floor)> {
+pub fn thickness(_: &mut Draw, floor: &Floor) -> Option<(Floor, Floor)> {
     let at = no_thicker_than_asked(floor.clone());
     match at.t {
         ..=90 => None,

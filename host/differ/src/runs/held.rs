@@ -2,6 +2,7 @@
 //! has them.
 
 use crate::case::Case;
+use crate::clear;
 use crate::lent::Lent;
 use crate::panels;
 use crate::same::same_answer;
@@ -45,7 +46,7 @@ impl Held {
         }
     }
 
-    pub fn open(&mut self, case: &Case) -> Result<(), String> {
+    pub fn open(&mut self, case: &mut Case) -> Result<(), String> {
         let answer = (case.job.calls.open)(
             self.lent_floor.numbers(),
             self.lent_table.numbers_mut(),
@@ -54,7 +55,8 @@ impl Held {
         let right = opening::open(&self.floor, &mut self.table, &mut self.governing);
         self.table_is_right = right.0 == SUCCESS;
         let same = self.same(answer, right);
-        same.map_err(|words| format!("opening: {words}"))
+        same.map_err(|words| format!("opening: {words}"))?;
+        self.clear(case)
     }
 
     /// Answers whether the change is taken, where library and reference are at one.
@@ -79,7 +81,12 @@ impl Held {
             self.verdict = after;
         }
         self.ties = false;
+        self.clear(case)?;
         Ok(refused == SUCCESS)
+    }
+
+    fn clear(&self, case: &mut Case) -> Result<(), String> {
+        clear::compare(case, &self.floor, &self.lent_floor)
     }
 
     pub fn panels(&self, case: &mut Case) -> Result<(), String> {

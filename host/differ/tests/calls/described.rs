@@ -1,6 +1,8 @@
-//! Batches of what is described one by one: floors and changes that each show one thing, runs of changes, steel queries.
+//! Batches of what is described one by one: floors and changes that each show one thing, runs of changes, floors broken
+//! in one place, steel queries.
 
 use crate::stream::{Batch, Call, Lent, LONGEST_GOVERNING, LONGEST_TABLE};
+use cases::floors::single;
 use cases::queries;
 use cases::refusals::{self, Case};
 use cases::runs::{self, Run};
@@ -16,6 +18,7 @@ fn of_case(case: Case) -> Batch {
         governing,
     });
     batch.make(case.change.map_or(Call::Open, Call::Change));
+    batch.make(Call::Clear);
     batch.show();
     batch
 }
@@ -31,9 +34,21 @@ fn of_run(run: Run) -> Batch {
     }
     for change in run.changes {
         batch.make(Call::Change(change));
+        batch.make(Call::Clear);
     }
     batch.show();
     batch
+}
+
+/// Asked whether they are clear, and nothing more.
+fn of_singles() -> Vec<Batch> {
+    let floors = single::floors().into_iter();
+    let batch = |floor: Vec<u8>| {
+        let mut batch = Batch::new(Lent::of(&floor, &[], &[]));
+        batch.make(Call::Clear);
+        batch
+    };
+    floors.map(|floor| batch(floor.bytes)).collect()
 }
 
 fn of_query(query: reference::steel::Query) -> Call {
@@ -48,5 +63,9 @@ pub fn batches() -> Vec<Batch> {
     }
     let cases = refusals::all().into_iter().map(of_case);
     let runs = runs::all().into_iter().map(of_run);
-    cases.chain(runs).chain([queries_alone]).collect()
+    cases
+        .chain(runs)
+        .chain(of_singles())
+        .chain([queries_alone])
+        .collect()
 }

@@ -41,6 +41,7 @@ fn clear_floor() -> Batch {
         lent(&Floor::clear(3, 3)),
         &[
             Call::Open,
+            Call::Clear,
             Call::Change(span(5_980)),
             Call::Change(span(5_990)),
             Call::Change(span(6_000)[..8].to_vec()),
@@ -88,9 +89,11 @@ fn weak_edge() -> Batch {
         Call::Open,
         Call::Panel(1, 0),
         edge((772, 277)),
+        Call::Clear,
         Call::Panel(1, 0),
         Call::Panel(1, 1),
         edge((655, 291)),
+        Call::Clear,
     ];
     batch(lent(&floor), &calls)
 }
@@ -103,7 +106,12 @@ fn refused_floors() -> [Batch; 3] {
     short_table.table.truncate(383);
     short_slice.governing.truncate(159);
     let opened_and_changed = [Call::Open, Call::Change(span(5_980))];
-    let on_no_floor = [Call::Open, Call::Change(vec![]), Call::Panel(0, 0)];
+    let on_no_floor = [
+        Call::Open,
+        Call::Change(vec![]),
+        Call::Panel(0, 0),
+        Call::Clear,
+    ];
     let mut refused = [
         batch(no_floor, &on_no_floor),
         batch(short_table, &opened_and_changed),
@@ -113,10 +121,28 @@ fn refused_floors() -> [Batch; 3] {
     refused
 }
 
+/// The last column a mm too far off along y, and a last panel that asks for 110.5 of 110 and then for 110; no table is
+/// lent.
+fn broken_in_one_place() -> [Batch; 3] {
+    let mut stray = Floor::clear(3, 3);
+    stray.offsets[15].1 = 601;
+    let thin = |span| Floor {
+        t: 110,
+        x_spans: vec![4_800, 4_800, span],
+        y_spans: vec![4_800, 4_800, span],
+        x_lines: vec![(300, 600); 4],
+        y_lines: vec![(300, 600); 4],
+        ..Floor::clear(3, 3)
+    };
+    [stray, thin(4_920), thin(4_900)]
+        .map(|floor| batch(Lent::of(&floor.bytes(), &[], &[]), &[Call::Clear]))
+}
+
 pub fn batches() -> Vec<Batch> {
     let queries = [2_195_000, 0, 20_000_000, 2_000_000_001].map(query);
     let mut batches = vec![clear_floor(), wrong_numbers(), beams(), weak_edge()];
     batches.extend(refused_floors());
+    batches.extend(broken_in_one_place());
     batches.push(batch(Lent::default(), &queries));
     batches
 }

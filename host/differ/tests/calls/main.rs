@@ -54,6 +54,10 @@ fn of_panel(call: &Call) -> bool {
     matches!(call, Call::Panel(..))
 }
 
+fn of_clear(call: &Call) -> bool {
+    matches!(call, Call::Clear)
+}
+
 fn of_steel(call: &Call) -> bool {
     matches!(call, Call::Steel(_))
 }
@@ -63,6 +67,7 @@ fn floors_and_panels() {
     let batches = batches("opened floors", 40, |case, _| floors::case(case));
     assert_eq!(refusals(&batches, opening), (0..=8).chain([13]).collect());
     assert!(refusals(&batches, of_panel).contains(&10));
+    assert_eq!(refusals(&batches, of_clear), (0..=7).collect());
     compare(&batches);
 }
 
@@ -86,6 +91,7 @@ fn what_is_described() {
     assert!(batches.iter().all(Batch::fits));
     assert_eq!(refusals(&batches, opening), (0..=8).chain([13]).collect());
     assert_eq!(refusals(&batches, changing), (0..=9).chain([13]).collect());
+    assert_eq!(refusals(&batches, of_clear), (0..=7).collect());
     compare(&batches);
 }
 
@@ -132,7 +138,7 @@ fn lengths_to_the_end_of_the_buffers() {
 /// At a batch without calls and at words that are no call. An input that ends goes on with zeros.
 #[test]
 fn where_it_stops() {
-    for stopped in [[0, 0, 0, 0, 0], [0, 0, 0, 1, 0], [0, 0, 0, 1, 6]] {
+    for stopped in [[0, 0, 0, 0, 0], [0, 0, 0, 1, 0], [0, 0, 0, 1, 7]] {
         let stdin = [words(&stopped), next_batch()].concat();
         assert_eq!(printed("calls", &stdin), "");
     }

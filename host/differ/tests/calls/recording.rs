@@ -15,6 +15,7 @@ const RECORDING: Calls = Calls {
     open,
     change,
     panel,
+    clear,
     steel,
 };
 
@@ -95,6 +96,14 @@ fn panel(floor: &[u8], x: u64, y: u64) -> Answer {
         |batch| batch.left.floor == floor,
         || Batch::new(Lent::of(floor, &[], &[])),
         |batch| batch.make(Call::Panel(x, y)),
+    )
+}
+
+fn clear(floor: &[u8]) -> Answer {
+    in_batch(
+        |batch| batch.left.floor == floor,
+        || Batch::new(Lent::of(floor, &[], &[])),
+        |batch| batch.make(Call::Clear),
     )
 }
 

@@ -1,7 +1,7 @@
 //! Batches of calls as the program reads them (`crates/calls/src/main.rt` has the form), with the lines that it has to print.
 
 use gandhrumil::{Answer, Query};
-use reference::{governing, held, opening, panel, span, steel};
+use reference::{clear, governing, held, opening, panel, span, steel};
 
 /// What the program's buffers have room for.
 pub const LONGEST_FLOOR: usize = 4096;
@@ -16,6 +16,7 @@ pub enum Call {
     Panel(u64, u64),
     Steel(Query),
     Show,
+    Clear,
 }
 
 /// A call with the right lines.
@@ -76,6 +77,7 @@ impl Call {
             Call::Panel(x, y) => (3, wide(&[*x, *y])),
             Call::Steel(Query { m, b, t, d, fc, fy }) => (4, wide(&[*m, *b, *t, *d, *fc, *fy])),
             Call::Show => (5, Vec::new()),
+            Call::Clear => (6, Vec::new()),
         };
         [&word(number), &rest[..]].concat()
     }
@@ -122,6 +124,7 @@ impl Batch {
                 let numbers = [m, b, t, d, fc, fy].map(|&number| number.into());
                 steel::answer(steel::Query::of(numbers))
             }
+            Call::Clear => clear::clear(floor),
             Call::Show => panic!("show answers nothing"),
         };
         let lines = vec![format!("{refused} {value}")];

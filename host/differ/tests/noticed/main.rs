@@ -1,6 +1,9 @@
 //! Wrong libraries in place of the right one: each is found out.
 
 mod changes;
+mod clear;
+mod equal;
+mod looks;
 mod openings;
 mod order;
 mod stiffness;
@@ -66,6 +69,7 @@ fn noticed_in<T>(
 /// Drawn once for all tests.
 static RUNS: LazyLock<Vec<Run>> = LazyLock::new(cases::runs::all);
 static FLOORS: LazyLock<Vec<Described>> = LazyLock::new(cases::floors::all);
+static SINGLES: LazyLock<Vec<Described>> = LazyLock::new(cases::floors::single::floors);
 
 fn noticed_in_runs(change: Change) -> String {
     let calls = Calls { change, ..LIBRARY };
@@ -169,6 +173,8 @@ fn what_never_came_up() {
         "a floor that breaks limit 32",
         "a damaged floor: Refused(8)",
         "a damaged floor: Refused(13)",
+        "a floor asked whether it is clear: NoByOnePlace(64)",
+        "a floor asked whether it is clear: Refused(7)",
         "a panel query: refusal 10",
         "12 bays each way",
         "some choice of sides",

@@ -33,27 +33,11 @@ typedef struct {
     uintptr_t place; /* what they are */
 } attempt;
 
-/* A floor that gets this number, or 0. */
-static floor_file held_floor(uint32_t number)
-{
-    floor_file floor = square(3, NO_BEAMS);
-    switch (number) {
-    case 1: floor.len -= 1; break;
-    case 2: set(&floor, 0, 3, 3, 89); break;
-    case 3: floor.len -= RECORD_BYTES; break;
-    case 4: set(&floor, 1, 30, 420, 1); break;
-    case 5: set(&floor, 1, 19, 420, 0); break;
-    case 6: set(&floor, 3, 1500, 400, 0); set(&floor, 4, 2980, 0, 0); break;
-    case 7: set(&floor, 11, 300, 600, 0); break; /* a beam on x line 1 alone */
-    }
-    return floor;
-}
-
 /* The lent buffers: the floor, a table and governing moments of any numbers, and a change that is taken where nothing else is
  * amiss. */
 static void fill(uint32_t held)
 {
-    lent.floor = held_floor(held);
+    lent.floor = refused(held);
     memset(lent.table, 0x5a, sizeof lent.table);
     memset(lent.governing, 0x5a, sizeof lent.governing);
     write_record(lent.change, 3, 0, 6000, 3000, 0);
@@ -102,8 +86,10 @@ static void try_pointers(attempt a)
     expect("change", a, changed, 255);
     if (!(a.empty & CHANGE))
         expect("open", a, gandhrumil_open(floor, floor_len, table, table_len, governing, governing_len), 255);
-    if (a.empty == FLOOR)
+    if (a.empty == FLOOR) {
         expect("panel", a, gandhrumil_panel(floor, floor_len, 0, 0), 0);
+        expect("clear", a, gandhrumil_clear(floor, floor_len), 0);
+    }
 }
 
 static void try_places(uint32_t held, int empty)

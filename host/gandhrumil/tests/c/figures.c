@@ -1,4 +1,4 @@
-/* The four calls on what 01 gives an answer for, and governing moments worked out by hand. C99 that is C++ too. */
+/* The five calls on what 01 gives an answer for, and governing moments worked out by hand. C99 that is C++ too. */
 #include "gandhrumil.h"
 
 #include "floor.h"
@@ -118,10 +118,41 @@ static void weak_edges(void)
     expect("inner", gandhrumil_panel(everywhere.bytes, everywhere.len, 1, 1), 0, 137);
 }
 
+/* One record of 3 by 3 bays of 6,000 without beams, at a limit and past it. */
+static void expect_limit(const char *what, size_t record, const uint32_t *at, const uint32_t *past)
+{
+    floor_file floor = square(3, NO_BEAMS);
+    set(&floor, record, at[0], at[1], at[2]);
+    expect(what, gandhrumil_clear(floor.bytes, floor.len), 0, 1);
+    set(&floor, record, past[0], past[1], past[2]);
+    expect(what, gandhrumil_clear(floor.bytes, floor.len), 0, 0);
+}
+
+/* "Yes exactly when the full verdict is 0; a refused floor answers no with its number" (02, Four): 01's figures at the limits, the
+ * thickness that an outer panel asks for, 5600/30 = 186.7, and 01's one bay, whose verdict is 1. */
+static void clear_or_not(void)
+{
+    static const uint32_t x_span[2][3] = { { 4000, 0, 0 }, { 3980, 0, 0 } };
+    static const uint32_t offset[2][3] = { { 0, 600, 0 }, { 0, 601, 0 } };
+    static const uint32_t loads[2][3] = { { 5000, 10000, 0 }, { 5000, 10001, 0 } };
+    static const uint32_t sizes[2][3] = { { 3, 3, 187 }, { 3, 3, 186 } };
+    floor_file floor = one_bay();
+    expect("clear, one bay", gandhrumil_clear(floor.bytes, floor.len), 0, 0);
+    expect_limit("clear, neighbours", 5, x_span[0], x_span[1]);
+    expect_limit("clear, last column", 33, offset[0], offset[1]);
+    expect_limit("clear, loads", 2, loads[0], loads[1]);
+    expect_limit("clear, thickness", 0, sizes[0], sizes[1]);
+    for (uint32_t number = 0; number <= 7; number++) {
+        floor = refused(number);
+        expect("clear, refused", gandhrumil_clear(floor.bytes, floor.len), number, number == 0);
+    }
+}
+
 int main(void)
 {
     floors();
     weak_edges();
+    clear_or_not();
     governing_moments();
     expect("steel", gandhrumil_steel(2195000, 1000, 150, 124, 30, 420), 0, 484);
     expect("steel for no moment", gandhrumil_steel(0, 1000, 150, 124, 30, 420), 0, 270);

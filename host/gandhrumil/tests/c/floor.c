@@ -61,3 +61,18 @@ floor_file square(uint32_t bays, layout beams)
     append_alike(&floor, 9, (bays + 1) * (bays + 1), 0);
     return floor;
 }
+
+floor_file refused(uint32_t number)
+{
+    floor_file floor = square(3, NO_BEAMS);
+    switch (number) {
+    case 1: floor.len -= 1; break;
+    case 2: set(&floor, 0, 3, 3, 89); break;
+    case 3: floor.len -= RECORD_BYTES; break;
+    case 4: set(&floor, 1, 30, 420, 1); break;
+    case 5: set(&floor, 1, 19, 420, 0); break;
+    case 6: set(&floor, 3, 1500, 400, 0); set(&floor, 4, 2980, 0, 0); break;
+    case 7: set(&floor, 11, 300, 600, 0); break; /* a beam on x line 1 alone */
+    }
+    return floor;
+}

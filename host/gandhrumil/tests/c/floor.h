@@ -25,4 +25,7 @@ floor_file square(uint32_t bays, layout beams);
 /* The floor with one record written anew; it keeps its kind and index. */
 void set(floor_file *floor, size_t record, uint32_t a, uint32_t b, uint32_t c);
 
+/* 3 by 3 bays that get this refusal, 1 to 7; for 0 the floor is clear. */
+floor_file refused(uint32_t number);
+
 #endif

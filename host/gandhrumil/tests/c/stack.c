@@ -33,6 +33,11 @@ static void call_panel(void)
     answer = gandhrumil_panel(floor_lent.bytes, floor_lent.len, BAYS - 1, BAYS - 1);
 }
 
+static void call_clear(void)
+{
+    answer = gandhrumil_clear(floor_lent.bytes, floor_lent.len);
+}
+
 static void call_steel(void)
 {
     answer = gandhrumil_steel(2195000, 1000, 150, 124, 30, 420);
@@ -75,15 +80,23 @@ static void measure(const char *name, void (*call)(void), floor_file floor, uint
            (unsigned)answer.value, (unsigned)refusal, (unsigned)value, (unsigned)used, (unsigned)least, GANDHRUMIL_STACK - 1);
 }
 
-/* `thickness` is what the corner panel asks for. Every panel asks for more than 120. */
+/* `thickness` is what the corner panel asks for. Every panel asks for more than 120. The last record is the last column's. */
 static void measure_layout(layout beams, uint32_t thickness)
 {
-    floor_file clear = square(BAYS, beams), thin = clear, loaded = clear;
+    floor_file clear = square(BAYS, beams), thin = clear, loaded = clear, off = clear, late = clear;
+    const size_t last_record = clear.len / RECORD_BYTES - 1;
     set(&thin, 0, BAYS, BAYS, 120);
     set(&loaded, 2, 5000, 10001, 0);
+    set(&off, last_record, 0, 601, 0);
+    set(&late, last_record, 0, 12001, 0);
     measure("open, clear", call_open, clear, 0, 0);
     measure("open, too thin", call_open, thin, 0, 64);
     measure("panel", call_panel, clear, 0, thickness);
+    measure("clear, yes", call_clear, clear, 0, 1);
+    measure("clear, no, too thin", call_clear, thin, 0, 0);
+    measure("clear, no, too much live load", call_clear, loaded, 0, 0);
+    measure("clear, no, last column off", call_clear, off, 0, 0);
+    measure("clear, refused 5", call_clear, late, 5, 0);
     write_record(change, 3, 0, 6000, 3000, 0);
     measure("change, clear to clear", call_change, clear, 0, 0);
     measure("change, too thin before and after", call_change, thin, 0, 64);

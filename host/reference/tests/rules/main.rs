@@ -1,6 +1,7 @@
 //! What 01 says, written down by hand and held against the code.
 
 mod changes;
+mod clear;
 mod floors;
 mod fraction;
 mod governing;

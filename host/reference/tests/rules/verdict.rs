@@ -157,12 +157,12 @@ fn five_times_as_stiff_passes() {
 }
 
 /// Width and depth of the beams on outer lines, and on inner ones.
-type Beams = [(u32, u32); 2];
+pub type Beams = [(u32, u32); 2];
 
 /// Under a slab of 200, over spans of 3,000 and between columns of 1,500 all α are 6,650.
-const WEAK: Beams = [(350, 310), (645, 280)];
+pub const WEAK: Beams = [(350, 310), (645, 280)];
 /// There all α are 33,250, five times as much.
-const STIFF: Beams = [(505, 460), (890, 420)];
+pub const STIFF: Beams = [(505, 460), (890, 420)];
 
 /// With W 2,250 outside and 3,000 inside; 17 or 9 and 56 or 32 for each mm of width.
 #[test]
@@ -188,7 +188,7 @@ fn lines(count: usize, [outer, inner]: Beams) -> Vec<(u32, u32)> {
 }
 
 /// Columns of half a span.
-fn even(nx: usize, ny: usize, spans: (u32, u32), beams: (Beams, Beams)) -> Floor {
+pub fn even(nx: usize, ny: usize, spans: (u32, u32), beams: (Beams, Beams)) -> Floor {
     let (x_span, y_span) = spans;
     let (on_x_lines, on_y_lines) = beams;
     Floor {

@@ -11,7 +11,7 @@ fn said(file: &[u8]) -> (i32, String) {
     (ran.status, ran.words().to_string())
 }
 
-fn inputs() -> Vec<Described> {
+pub fn inputs() -> Vec<Described> {
     let mut inputs = floors::all();
     inputs.extend(floors::long::inputs());
     inputs
@@ -76,10 +76,10 @@ fn every_described_floor() {
     }
 }
 
-type Spoil = fn(&mut Floor);
+pub type Spoil = fn(&mut Floor);
 
 /// What breaks each limit alone in a clear floor of 3 by 3 bays, and words that have to be said of it.
-const BROKEN: [(u32, &str, Spoil); 7] = [
+pub const BROKEN: [(u32, &str, Spoil); 7] = [
     (1, "fewer than three bays along x or along y", |floor| {
         *floor = Floor::clear(3, 2)
     }),
@@ -132,13 +132,17 @@ fn each_limit_in_words() {
 }
 
 /// "equality always passes"
-#[test]
-fn a_floor_at_its_limits_is_clear() {
+pub fn at_its_limits() -> Floor {
     let mut floor = Floor::clear(3, 3);
     floor.live = 2 * floor.dead;
     floor.offsets[5] = (400, 600);
     floor.x_spans[1] = 4_000;
-    let (status, words) = said(&floor.bytes());
+    floor
+}
+
+#[test]
+fn a_floor_at_its_limits_is_clear() {
+    let (status, words) = said(&at_its_limits().bytes());
     assert_eq!(status, 0, "{words}");
 }
 

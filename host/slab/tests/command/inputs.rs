@@ -26,7 +26,7 @@ fn an_empty_file() {
 #[test]
 fn a_directory_and_nothing_at_all() {
     for path in [root("example"), root("example/no.floor")] {
-        for name in ["check", "text", "make"] {
+        for name in ["check", "clear", "text", "make"] {
             let ran = slab(&[name, path.to_str().unwrap()]);
             assert_eq!((ran.status, ran.stdout.len()), (3, 0));
             assert!(
@@ -76,6 +76,15 @@ fn a_huge_file() {
             "{}",
             check.words()
         );
+        let clear = slab(&["clear", path]);
+        assert_eq!(clear.status, 2);
+        assert!(
+            clear
+                .words()
+                .contains(&format!(": no, refused {refused}: ")),
+            "{}",
+            clear.words()
+        );
         assert_eq!(slab(&["text", path]).status, 2);
         let make = slab(&["make", path]);
         assert_eq!(make.status, 3);
@@ -108,6 +117,7 @@ fn broken_pipes() {
     let (floor, text) = (root("example/garage.floor"), root("example/garage.txt"));
     for (name, path) in [
         ("check", &floor),
+        ("clear", &floor),
         ("text", &floor),
         ("make", &text),
         ("help", &"check".into()),

@@ -1,6 +1,7 @@
 //! The command, by what it prints and how it ends, and the text form beneath it.
 
 mod check;
+mod clear;
 mod culprits;
 mod faults;
 mod garage;

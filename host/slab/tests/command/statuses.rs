@@ -9,15 +9,17 @@ fn garage() -> String {
 }
 
 #[test]
-fn check_by_its_verdict() {
+fn check_and_clear_by_the_verdict() {
     for (old, new, status) in [
         ("live 5000", "live 14400", 0),
         ("live 5000", "live 14401", 1),
         ("live 5000", "live 50001", 2),
         ("live 5000", "life 5000", 3),
     ] {
-        let ran = slab_on(&["check", "-"], garage().replace(old, new).as_bytes());
-        assert_eq!(ran.status, status, "{new}: {}", ran.stderr);
+        for name in ["check", "clear"] {
+            let ran = slab_on(&[name, "-"], garage().replace(old, new).as_bytes());
+            assert_eq!(ran.status, status, "{name}, {new}: {}", ran.stderr);
+        }
     }
 }
 
@@ -92,6 +94,9 @@ fn words_that_are_no_command() {
         &["check", "a", "b"],
         &["check", "a", "-o", "b"],
         &["check", "--loud", "a"],
+        &["clear"],
+        &["clear", "a", "b"],
+        &["clear", "a", "-o", "b"],
         &["make"],
         &["make", "a", "-o"],
         &["make", "a", "-o", "b", "-o", "c"],

@@ -1,9 +1,10 @@
 -- A row for each direction, of all its lines.
 -- Assumes nothing.
+use mathlib.Core.Path.{refl}
 use borrow.Author.Needs.{needs}
 use Rattle.plan.specs.declared.ways.Way.the-variants.{X, Y}
 use Rattle.lines.proofs.Slabs.{bays-of, lines-of}
-use Rattle.lines.proofs.Filled.{both-alphas}
+use Rattle.lines.proofs.Filled.{all-rows}
 use Rattle.lines.proofs.line.alphas.Statement.{statement}
 use Rattle.lines.proofs.line.alphas.Tie as tie
 
@@ -12,8 +13,8 @@ alphas-spec =
     tie.close
     (tie.spec
     (λ c. search needs)
-    (λ c κs. lines-of X (c .before .before .pre))
+    (λ c κs. (lines-of X (c .before .before .before .pre), refl))
     (λ c. search needs)
-    (λ c κs. lines-of Y (c .before .before .before .before .pre))
-    (λ c. let p = c .before .before .before .before .before .pre in
-    both-alphas (bays-of _ (p .shared) X .1) (bays-of _ (p .shared) Y .1) (c .before .before .alphas-along .ensures) (c .alphas-along2 .ensures)))
+    (λ c κs. (lines-of Y (c .before .before .before .before .before .before .pre), refl))
+    (λ c. let p = c .before .before .before .before .before .before .before .pre in
+    all-rows (bays-of _ (p .shared) X .1) (bays-of _ (p .shared) Y .1) (c .before .before .before .fill-along .ensures) (c .fill-along2 .ensures)))
