@@ -1,8 +1,8 @@
 -- The verdict is 0 exactly where no limit answers that it is broken, in whatever order they are asked.
---     first-tells               what is broken in the first panel is broken
---     clear-by-limits                  the verdict, by what is asked one after the other
---     by-floor, by-first, by-lines, by-panels     where that ends
+--     clear-by-limits           the verdict, by what is asked one after the other
 --     first-at, thin-first      the first panel is there; its least thickness, and the slab's
+--     first-tells               what is broken in the first panel is broken
+--     by-floor, by-first, by-lines, by-panels     where the asking ends
 -- Assumes nothing.
 use Prim.Native.Nat.{ℕ}
 use mathlib.Core.Bool.{Bool, true, false, not, _||_, _&&_}

@@ -1,5 +1,5 @@
--- What is asked one after the other: 1 and 16 of the floor, then its first panel, then 2, 4 and 8, which need no α, then 32 and 64 of every panel. The limits
--- themselves are those of the verdict.
+-- What is asked one after the other: 1 and 16, then 2, 32 and 64 of the first panel, then 4, 2 and 8 of the whole floor, which need no α, then 32 and 64 of
+-- every panel. The limits themselves are those of the verdict.
 -- Assumes nothing.
 use Prim.Native.Nat.{ℕ}
 use mathlib.Core.Bool.{Bool, _||_}
