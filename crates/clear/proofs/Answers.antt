@@ -7,20 +7,14 @@ use mathlib.Core.Logic.{_↔_}
 use mathlib.Core.Path.{_≡_, refl, sym, _∙_}
 use native.Mathlib.Omega.{arith}
 use Rattle.numbers.specs.Tests.{Says}
-use Rattle.numbers.proofs.Tests.{says-eq, says-as, by-test, by-says}
+use Rattle.numbers.proofs.Tests.{says-eq, by-test, by-says}
 use Rattle.numbers.proofs.Chains.{given-one}
 use Rattle.floor.specs.Refusal.{floorChecks, refusal}
 use Rattle.floor.proofs.Meaning.{given}
-use Rattle.limits.specs.Limits.{verdict}
-use Rattle.limits.specs.Meaning.{Clear}
-use Rattle.limits.proofs.Meaning.{broken, clear-is}
+use Rattle.limits.proofs.Meaning.{says-clear}
 use Rattle.answers.specs.declared.Answer.{Answer}
 use Rattle.answers.proofs.Answers.{same-answer}
-use Rattle.clear.specs.Answers.{isClear, yesNo, clearOf, AcceptedAndClear, ClearAnswer}
-
--- on an accepted floor the test says that no limit is broken
-pub says-clear : (f : List ℕ) → refusal f ≡ 0 → Says (isClear f) (Clear f)
-says-clear f e = let c = clear-is (broken f e) in says-as (c .0) (c .1) (says-eq (verdict f) 0)
+use Rattle.clear.specs.Answers.{yesNo, clearOf, AcceptedAndClear, ClearAnswer}
 
 -- 1 says what the test says, and 0 the contrary
 yes-says : {b : Bool} {P Q : Type 0} → Says b P → (P → Q) → (Q → P) → ((yesNo b ≡ 1) ↔ Q) × ((yesNo b ≡ 0) ↔ ¬ Q)

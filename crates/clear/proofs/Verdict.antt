@@ -25,8 +25,7 @@ use Rattle.lines.specs.Slabs.{slabOf}
 use Rattle.lines.specs.Rows.{AllSpans}
 use Rattle.lines.specs.Asked.{PanelAtHand}
 use Rattle.verdict.proofs.Sum.{few-is, heavy-is}
-use Rattle.limits.specs.Limits.{somePair, somePanel, few, slenderPanel, uneven, astray, overloaded, heavy, unequalPanel, unbalanced, thinPanel, sumOf, verdict}
-use Rattle.clear.specs.Answers.{isClear}
+use Rattle.limits.specs.Limits.{somePair, somePanel, few, slenderPanel, uneven, astray, overloaded, heavy, unequalPanel, unbalanced, thinPanel, sumOf, verdict, isClear}
 use Rattle.clear.specs.Order.{firstPanelBroken, brokenWithoutAlpha, panelsBroken}
 
 -- ---- either of two

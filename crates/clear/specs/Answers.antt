@@ -9,20 +9,16 @@ use mathlib.Core.Logic.{_↔_}
 use mathlib.Core.Path.{_≡_}
 use lib.Dec.{eqb}
 use Rattle.floor.specs.Refusal.{refusal, Given}
-use Rattle.limits.specs.Limits.{verdict}
+use Rattle.limits.specs.Limits.{isClear}
 use Rattle.limits.specs.Meaning.{Clear}
 use Rattle.answers.specs.declared.Answer.{Answer}
 use Rattle.answers.specs.Answers.{answer}
-
--- "Yes exactly when the full verdict is 0"
-abbrev pub isClear : List ℕ → Bool
-isClear f = eqb (verdict f) 0
 
 -- 1 is yes, 0 is no
 abbrev pub yesNo : Bool → ℕ
 yesNo b = cond b 1 0
 
--- "a refused floor answers no with its number"
+-- "Yes exactly when the full verdict is 0; a refused floor answers no with its number"
 unfoldable pub clearOf : List ℕ → Answer
 clearOf f = cond (eqb (refusal f) 0) (answer 0 (yesNo (isClear f))) (answer (refusal f) (yesNo false))
 

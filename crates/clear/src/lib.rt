@@ -3,7 +3,8 @@
 ghost use mathlib.Core.Path.{_≡_};
 ghost use Rattle.floor.specs.Asked.{Accepted};
 ghost use Rattle.lines.specs.Asked.{Surveyed, AtPanel, FirstPanelAlphas};
-ghost use Rattle.clear.specs.Answers.{isClear, yesNo, clearOf};
+ghost use Rattle.limits.specs.Limits.{isClear};
+ghost use Rattle.clear.specs.Answers.{yesNo, clearOf};
 ghost use Rattle.clear.specs.Order.{firstPanelBroken, brokenWithoutAlpha, panelsBroken};
 use answers::Answer;
 use answers::refused_query;

@@ -1,6 +1,6 @@
 -- What each limit says, both ways, put together from the parts of its test; and that the verdict is the one number that says which are broken.
 --     broken, broken-one     the verdict's digits are the limits, and no other number's are
---     clear-is               it is 0 exactly where no limit is broken
+--     clear-is, says-clear   it is 0 exactly where no limit is broken, and the test of it says so
 -- Assumes nothing.
 use Prim.Native.Nat.{ℕ, _+_, _*_, _-_, _/_, _<_, _≤_, min}
 use mathlib.Core.Bool.{Bool, _||_}
@@ -11,7 +11,7 @@ use native.Mathlib.Decide.{decLt}
 use native.Mathlib.Omega.{arith}
 use lib.Dec.{ltb}
 use Rattle.numbers.specs.Tests.{Says}
-use Rattle.numbers.proofs.Tests.{says-lt, says-or, says-and, says-as, says-some, says-itself}
+use Rattle.numbers.proofs.Tests.{says-lt, says-eq, says-or, says-and, says-as, says-some, says-itself}
 use Rattle.plan.specs.declared.ways.Way.{Way}
 use Rattle.plan.specs.declared.ways.Way.the-variants.{X, Y}
 use Rattle.plan.specs.Ways.{pick}
@@ -20,7 +20,7 @@ use Rattle.floor.specs.Refusal.{refusal}
 use Rattle.floor.proofs.Fair.{fair}
 use Rattle.lines.proofs.Meaning.{says-everywhere}
 use Rattle.lines.proofs.Enough.{says-thinner}
-use Rattle.limits.specs.Limits.{somePair, somePanel, few, slenderPanel, uneven, adjoining, astrayColumn, astray, heavy, unequalPanel, unbalanced, thinPanel, verdict}
+use Rattle.limits.specs.Limits.{somePair, somePanel, few, slenderPanel, uneven, adjoining, astrayColumn, astray, heavy, unequalPanel, unbalanced, thinPanel, verdict, isClear}
 use Rattle.limits.specs.Meaning.{Few, Slender, UnevenAlong, Adjoins, Exceeded, Astray, Heavy, Unbalanced, Thin, Broken, Clear}
 use Rattle.limits.proofs.Digits.{digits, says-digit, same-digit, same-digits}
 
@@ -176,3 +176,6 @@ zero-says n =
 
 pub clear-is : {f : List ℕ} {v : ℕ} → Broken f v → (v ≡ 0) ↔ Clear f
 clear-is {f} b = (λ z. nothing (subst (Broken f) z b), λ n. broken-one b (zero-says n))
+
+pub says-clear : (f : List ℕ) → refusal f ≡ 0 → Says (isClear f) (Clear f)
+says-clear f e = let c = clear-is (broken f e) in says-as (c .0) (c .1) (says-eq (verdict f) 0)

@@ -3,7 +3,7 @@
 use Prim.Native.Nat.{ℕ, _+_, _*_, _-_, min, max}
 use mathlib.Core.Bool.{Bool, cond, _||_, _&&_}
 use mathlib.Core.List.{List}
-use lib.Dec.{ltb}
+use lib.Dec.{ltb, eqb}
 use Rattle.numbers.specs.Tests.{some}
 use Rattle.plan.specs.declared.ways.Way.{Way}
 use Rattle.plan.specs.declared.ways.Way.the-variants.{X, Y}
@@ -92,3 +92,7 @@ unfoldable pub verdict : List ℕ → ℕ
 verdict f =
     sumOf (few f) (somePanel f (slenderPanel f)) (uneven f X || uneven f Y) (astray f) (heavy f) (unbalanced f)
     (somePanel f (thinPanel f))
+
+-- moments stand only while no limit is broken and the slab is thick enough
+abbrev pub isClear : List ℕ → Bool
+isClear f = eqb (verdict f) 0

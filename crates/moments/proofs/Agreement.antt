@@ -14,6 +14,7 @@ use Rattle.changes.specs.Change.{changeKind, changeIndex, changed}
 use Rattle.changes.specs.Meaning.{TakenChange}
 use Rattle.changes.proofs.Kept.{many-kept}
 use Rattle.floor.proofs.Fair.{fair}
+use Rattle.limits.specs.Limits.{isClear}
 use Rattle.tables.specs.Width.{recordWidth}
 use Rattle.tables.specs.Places.{recordCount}
 use Rattle.tables.specs.Named.{namedAt}
@@ -26,7 +27,7 @@ use Rattle.supports.proofs.Same.{SameRecord}
 use Rattle.supports.proofs.Kept.{agrees-after}
 use Rattle.frames.specs.Table.{recordAt, namedWritten}
 use Rattle.moments.specs.Lent.{Lent}
-use Rattle.moments.specs.Tables.{clear, fresh, governing, Lodged}
+use Rattle.moments.specs.Tables.{fresh, governing, Lodged}
 use Rattle.moments.specs.Changing.{rewritten, regoverned, remade}
 use Rattle.moments.specs.Meaning.{Agrees}
 use Rattle.moments.proofs.Fresh.{record-full, same-bays}
@@ -69,4 +70,4 @@ module _ (f c : List ℕ) (taken : TakenChange f c) where
 
     pub agrees-remade : Agrees g (remade f c l)
     unfolding rewritten regoverned
-    agrees-remade = by-verdicts (clear f && clear g)
+    agrees-remade = by-verdicts (isClear f && isClear g)

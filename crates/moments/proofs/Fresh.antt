@@ -19,7 +19,7 @@ use Rattle.plan.specs.Plan.{bays}
 use Rattle.changes.specs.Change.{changeKind, changeIndex, changed}
 use Rattle.changes.specs.Meaning.{TakenChange}
 use Rattle.changes.proofs.Kept.{bays-kept}
-use Rattle.limits.specs.Limits.{verdict}
+use Rattle.limits.specs.Limits.{verdict, isClear}
 use Rattle.limits.specs.Meaning.{Few}
 use Rattle.limits.proofs.Meaning.{broken, clear-is}
 use Rattle.spans.specs.Record.{recordOf}
@@ -29,7 +29,7 @@ use Rattle.tables.specs.Named.{namedAt}
 use Rattle.tables.specs.Blank.{zeros}
 use Rattle.tables.proofs.Meaning.{says-named-at}
 use Rattle.frames.specs.Table.{viewAt, recordAt, namedWritten}
-use Rattle.moments.specs.Tables.{clear, rightRecord, fresh}
+use Rattle.moments.specs.Tables.{rightRecord, fresh}
 use Rattle.moments.specs.Changing as changing
 use Rattle.moments.proofs.SameView.{same-view}
 
@@ -86,7 +86,7 @@ module _ (f c : List ℕ) (t : TakenChange f c) where
 
   -- what a change writes of the table of f makes it the table of g
   pub made-fresh : (lent : List ℕ) → recordCount f * recordWidth ≤ length lent
-      → changing.rewritten (clear f) g (changeKind c) (changeIndex c) (fresh f lent) ≡ fresh g lent
+      → changing.rewritten (isClear f) g (changeKind c) (changeIndex c) (fresh f lent) ≡ fresh g lent
   unfolding changing.rewritten namedWritten fresh
   made-fresh lent room = by-clear (says-and (says-eq (verdict f) 0) (says-eq (verdict g) 0))
     where
@@ -94,8 +94,8 @@ module _ (f c : List ℕ) (t : TakenChange f c) where
           → written recordWidth s (rightRecord g) (recordCount g) (written recordWidth every (rightRecord f) (recordCount f) lent) ≡ written recordWidth every (rightRecord g) (recordCount g) lent
       anew s same = rw count-kept (rewritten recordWidth s (rightRecord f) (rightRecord g) (right-full f) (right-full g) (recordCount f) lent (omega arith) room same)
 
-      by-clear : Says (clear f && clear g) ((verdict f ≡ 0) × (verdict g ≡ 0))
-          → cond (clear f && clear g) (namedWritten g (changeKind c) (changeIndex c) (fresh f lent)) (fresh g (fresh f lent)) ≡ fresh g lent
+      by-clear : Says (isClear f && isClear g) ((verdict f ≡ 0) × (verdict g ≡ 0))
+          → cond (isClear f && isClear g) (namedWritten g (changeKind c) (changeIndex c) (fresh f lent)) (fresh g (fresh f lent)) ≡ fresh g lent
       by-clear says =
           by-test (λ u. u ≡ fresh g lent) says
           (λ e. same-written recordWidth _ _ _ _ 0 (recordCount g) _ (λ k _ _. refl) (λ k _ _. sym (right-clear g (e .1) k))

@@ -12,12 +12,12 @@ use Rattle.floor.specs.Refusal.{refusal}
 use Rattle.changes.specs.Change.{changeKind, changeIndex, changed}
 use Rattle.answers.specs.declared.Answer.{Answer}
 use Rattle.answers.specs.Answers.{answered}
-use Rattle.limits.specs.Limits.{verdict}
+use Rattle.limits.specs.Limits.{verdict, isClear}
 use Rattle.limits.specs.Meaning.{Clear}
-use Rattle.limits.proofs.Meaning.{broken, broken-one}
+use Rattle.limits.proofs.Meaning.{broken, broken-one, says-clear}
 use Rattle.answers.proofs.Answers.{same-answer}
 use Rattle.moments.specs.Lent.{Lent}
-use Rattle.moments.specs.Tables.{clear, fresh, afresh, Lodged}
+use Rattle.moments.specs.Tables.{fresh, afresh, Lodged}
 use Rattle.moments.specs.Opening.{openRefusal, Opened}
 use Rattle.moments.specs.Changing.{changeNumber, rewritten, regoverned, floorAfter, lentAfter, Changed}
 use Rattle.moments.specs.Meaning.{Agrees, LentOf, LentNamed, Judged, Earned, OpeningSays, ChangeSays}
@@ -25,7 +25,7 @@ use Rattle.moments.proofs.Governed.{same-lent, governing-of, governing-
 use Rattle.moments.proofs.Agreement.{says-written, agrees-remade}
 use Rattle.moments.proofs.Demand.{taken-of, lodged-changed}
 use Rattle.moments.proofs.Room.{open-parts, given-opening, given-changing}
-use Rattle.moments.proofs.Numbers.{says-clear, table-of, named-of, table-of-one, named-of-one}
+use Rattle.moments.proofs.Numbers.{table-of, named-of, table-of-one, named-of-one}
 
 -- ---- the answer
 
@@ -83,7 +83,7 @@ module _ (f c : List ℕ) (l : Lent) where
   abbrev number : ℕ
   number = changeNumber f l c
 
-  both-clear : number ≡ 0 → Says (clear f && clear g) (Clear f × Clear g)
+  both-clear : number ≡ 0 → Says (isClear f && isClear g) (Clear f × Clear g)
   both-clear z = let taken = taken-of f c l z in says-and (says-clear f (taken .held)) (says-clear g (taken .left))
 
   whole-table : number ≡ 0 → ¬ (Clear f × Clear g) → LentOf g l (lentAfter f l c)

@@ -9,12 +9,11 @@ use native.Mathlib.Omega.{arith}
 use lib.ListN.{length, getD, getD-replicate}
 use Rattle.numbers.specs.Records.{every}
 use Rattle.numbers.specs.Tests.{Says}
-use Rattle.numbers.proofs.Tests.{says-eq, says-as, by-test, by-says, fails}
+use Rattle.numbers.proofs.Tests.{by-test, by-says, fails}
 use Rattle.numbers.proofs.Written.{length-written, written-past, written-at, same-records}
 use Rattle.floor.specs.Refusal.{refusal}
-use Rattle.limits.specs.Limits.{verdict}
 use Rattle.limits.specs.Meaning.{Clear}
-use Rattle.limits.proofs.Meaning.{broken, clear-is}
+use Rattle.limits.proofs.Meaning.{broken, clear-is, says-clear}
 use Rattle.spans.specs.Record.{recordOf}
 use Rattle.tables.specs.Width.{recordWidth}
 use Rattle.tables.specs.Places.{Place, Inside, numberOf, placeOf, recordCount}
@@ -24,7 +23,7 @@ use Rattle.tables.specs.Meaning.{Names}
 use Rattle.tables.proofs.Numbered.{number-place, place-inside, place-number, number-below}
 use Rattle.tables.proofs.Meaning.{says-named, says-named-at}
 use Rattle.frames.specs.Table.{viewIn, viewAt, recordAt, namedWritten}
-use Rattle.moments.specs.Tables.{clear, rightRecord, fresh}
+use Rattle.moments.specs.Tables.{rightRecord, fresh}
 use Rattle.moments.specs.Meaning.{numberIn, TableOf, NamedOf}
 use Rattle.moments.proofs.Fresh.{record-full, right-full, right-clear, length-fresh}
 
@@ -41,10 +40,6 @@ module _ (f : List ℕ) where
   record-of : (p : Place) → Inside f p → recordAt f (numberOf f p) ≡ recordOf (viewIn f p)
   unfolding viewAt
   record-of p h = rw (number-place f h)
-
-  -- the test of the verdict says that no limit is broken
-  pub says-clear : refusal f ≡ 0 → Says (clear f) (Clear f)
-  says-clear e = let is = clear-is (broken f e) in says-as (is .0) (is .1) (says-eq (verdict f) 0)
 
   module _ (t : List ℕ) (room : recordCount f * recordWidth ≤ length t) where
     fresh-at : (p : Place) → Inside f p → (n : ℕ) → n < recordWidth → numberIn f (fresh f t) p n ≡ getD (rightRecord f (numberOf f p)) n 0
@@ -64,7 +59,7 @@ module _ (f : List ℕ) where
       where
         blank : ¬ Clear f → (k n : ℕ) → n < recordWidth → getD (rightRecord f k) n 0 ≡ 0
         blank ne k n hn =
-            by-test {y = zeros k} (λ (r : List ℕ). getD r n 0 ≡ 0) (says-clear accepted) (λ c. absurd (ne c)) (λ _. getD-replicate recordWidth n 0 0 hn)
+            by-test {y = zeros k} (λ (r : List ℕ). getD r n 0 ≡ 0) (says-clear f accepted) (λ c. absurd (ne c)) (λ _. getD-replicate recordWidth n 0 0 hn)
 
     pub named-of : (kind index : ℕ) → NamedOf f kind index t (namedWritten f kind index t)
     unfolding namedWritten
@@ -88,7 +83,7 @@ module _ (f : List ℕ) where
   pub table-of-one : refusal f ≡ 0 → {t u v : List ℕ} → TableOf f t u → TableOf f t v → u ≡ v
   table-of-one e {t} {u} {v} a b =
       by-places u v (a .same-length ∙ sym (b .same-length))
-      (λ p h n hn. by-says (says-clear e) (λ c. a .stands c p h n hn ∙ sym (b .stands c p h n hn)) (λ ne. a .broken ne p h n hn ∙ sym (b .broken ne p h n hn)))
+      (λ p h n hn. by-says (says-clear f e) (λ c. a .stands c p h n hn ∙ sym (b .stands c p h n hn)) (λ ne. a .broken ne p h n hn ∙ sym (b .broken ne p h n hn)))
       (λ i h. a .past i h ∙ sym (b .past i h))
 
   pub named-of-one : {kind index : ℕ} {t u v : List ℕ} → NamedOf f kind index t u → NamedOf f kind index t v → u ≡ v

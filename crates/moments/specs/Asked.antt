@@ -8,13 +8,13 @@ use Rattle.floor.specs.Refusal.{refusal}
 use Rattle.lines.specs.declared.slab.Slab.{Slab}
 use Rattle.lines.specs.Slabs.{slabOf}
 use Rattle.lines.specs.Rows.{AllAlphas}
+use Rattle.limits.specs.Limits.{isClear}
 use Rattle.tables.specs.Places.{recordCount}
 use Rattle.plan.specs.Plan.{baysOf}
 use Rattle.tables.specs.Asked.{Room}
 use Rattle.supports.specs.Governing.{supportCount}
 use Rattle.supports.specs.Asked.{SupportRoom}
 use Rattle.frames.specs.Asked.{Listed}
-use Rattle.moments.specs.Tables.{clear}
 
 -- an accepted floor, slices that have room for its records and supports, and the kind and index of a record of it
 pub record Settling (f t g : List ℕ) (kind index : ℕ) : Type 0 where
@@ -29,7 +29,7 @@ pub record Judging (f t : List ℕ) (slab : Slab) (a : List (List ℕ)) (stands 
   pub table : Room (recordCount f) t
   pub shared : slab ≡ slabOf f
   pub alphas : AllAlphas f a
-  pub verdict : stands ≡ clear f
+  pub verdict : stands ≡ isClear f
 
 pub record Rewriting (f t : List ℕ) (slab : Slab) (a : List (List ℕ)) (stands : Bool) (kind index : ℕ) : Type 0 where
   pub judging : Judging f t slab a stands

@@ -12,12 +12,12 @@ use Rattle.changes.specs.Change.{changeKind, changeIndex, changed}
 use Rattle.changes.specs.Refusal.{changeChecks}
 use Rattle.answers.specs.declared.Answer.{Answer}
 use Rattle.answers.specs.Answers.{answered}
-use Rattle.limits.specs.Limits.{verdict}
+use Rattle.limits.specs.Limits.{verdict, isClear}
 use Rattle.plan.specs.Plan.{baysOf}
 use Rattle.supports.specs.Beside.{besideAt}
 use Rattle.frames.specs.Table.{namedWritten}
 use Rattle.moments.specs.Lent.{Lent}
-use Rattle.moments.specs.Tables.{clear, fresh, governing, roomChecks}
+use Rattle.moments.specs.Tables.{fresh, governing, roomChecks}
 
 -- the refusal of change c
 unfoldable pub changingChecks : List ℕ → Lent → List ℕ → Chain
@@ -29,11 +29,11 @@ changeNumber f l c = tried (changingChecks f l c)
 -- "If the verdict before or after is not 0, the whole table is written. Otherwise the records named here get their right value and every
 -- other keeps what it held, right or not." To what is now floor f, by a change of this kind and index.
 unfoldable pub rewritten : Bool → List ℕ → ℕ → ℕ → List ℕ → List ℕ
-rewritten before f kind index t = cond (before && clear f) (namedWritten f kind index t) (fresh f t)
+rewritten before f kind index t = cond (before && isClear f) (namedWritten f kind index t) (fresh f t)
 
 -- 02, One: "only supports next to a written record are written, from the table as it then stands", which is t
 unfoldable pub regoverned : Bool → List ℕ → ℕ → ℕ → List ℕ → List ℕ → List ℕ
-regoverned before f kind index t g = governing f (cond (before && clear f) (besideAt (baysOf f) kind index) every) t g
+regoverned before f kind index t g = governing f (cond (before && isClear f) (besideAt (baysOf f) kind index) every) t g
 
 -- everything lent to what is now floor f, after a change of this kind and index
 abbrev pub remadeOf : Bool → List ℕ → ℕ → ℕ → Lent → Lent
@@ -43,7 +43,7 @@ remadeOf before f kind index l =
 
 -- after change c to floor f was stored
 abbrev pub remade : List ℕ → List ℕ → Lent → Lent
-remade f c l = remadeOf (clear f) (changed f c) (changeKind c) (changeIndex c) l
+remade f c l = remadeOf (isClear f) (changed f c) (changeKind c) (changeIndex c) l
 
 -- what a change leaves of the floor and of what is lent; "Refusals write nothing"
 abbrev pub floorAfter : List ℕ → Lent → List ℕ → List ℕ

@@ -4,13 +4,13 @@
 use Prim.Native.Nat.{ℕ, _*_, _≤_}
 use mathlib.Core.Bool.{Bool, cond}
 use mathlib.Core.List.{List, [], _∷_}
-use lib.Dec.{eqb, leb}
+use lib.Dec.{leb}
 use lib.ListN.{length}
 use Rattle.numbers.specs.Records.{written, every}
 use Rattle.numbers.specs.Chains.{Chain, tried}
 use Rattle.numbers.specs.Chains.Check.{_unless_says_}
 use Rattle.plan.specs.Plan.{baysOf}
-use Rattle.limits.specs.Limits.{verdict}
+use Rattle.limits.specs.Limits.{isClear}
 use Rattle.tables.specs.Width.{recordWidth}
 use Rattle.tables.specs.Places.{recordCount}
 use Rattle.tables.specs.Blank.{zeros}
@@ -18,13 +18,9 @@ use Rattle.supports.specs.Governing.{supportWidth, supportCount, governed}
 use Rattle.frames.specs.Table.{recordAt}
 use Rattle.moments.specs.Lent.{Lent}
 
--- moments stand only while no limit is broken and the slab is thick enough
-abbrev pub clear : List ℕ → Bool
-clear f = eqb (verdict f) 0
-
 -- what record k holds
 unfoldable pub rightRecord : List ℕ → ℕ → List ℕ
-rightRecord f k = cond (clear f) (recordAt f k) (zeros k)
+rightRecord f k = cond (isClear f) (recordAt f k) (zeros k)
 
 -- the table of f in the slice t as lent
 unfoldable pub fresh : List ℕ → List ℕ → List ℕ
