@@ -7,6 +7,7 @@ use lib.Dec.{ltb, eqb}
 use Rattle.numbers.specs.Tests.{some}
 use Rattle.plan.specs.declared.ways.Way.{Way}
 use Rattle.plan.specs.declared.ways.Way.the-variants.{X, Y}
+use Rattle.plan.specs.Ways.{pick}
 use Rattle.plan.specs.Plan.{bays, thickness, dead, live, span, offset}
 use Rattle.layouts.specs.Layouts.{layoutOf}
 use Rattle.lines.specs.Lines.{isEverywhere, pairAlpha, panelThickness}
@@ -34,8 +35,12 @@ slenderPanel f i j = slender (span f X i) (span f Y j)
 abbrev pub unlike : ℕ → ℕ → Bool
 unlike a b = ltb (max a b) (3 * (max a b - min a b))
 
+-- span k along d and the next one
+abbrev pub unlikeNext : List ℕ → Way → ℕ → Bool
+unlikeNext f d k = unlike (span f d k) (span f d (k + 1))
+
 unfoldable pub uneven : List ℕ → Way → Bool
-uneven f d = some (bays f d - 1) (λ k. unlike (span f d k) (span f d (k + 1)))
+uneven f d = some (bays f d - 1) (unlikeNext f d)
 
 -- 8: "ten times an offset exceeds a span adjoining that column in its direction"
 abbrev pub exceeds : ℕ → ℕ → Bool
@@ -50,8 +55,11 @@ unfoldable pub adjoining : List ℕ → Way → ℕ → ℕ
 adjoining f d k = lesserAt (bays f d) (span f d) k
 
 -- the column on y line i and x line j is i-th along x and j-th along y
+abbrev pub astrayAlong : List ℕ → Way → ℕ → ℕ → Bool
+astrayAlong f d i j = exceeds (offset f d i j) (adjoining f d (pick d i j))
+
 unfoldable pub astrayColumn : List ℕ → ℕ → ℕ → Bool
-astrayColumn f i j = exceeds (offset f X i j) (adjoining f X i) || exceeds (offset f Y i j) (adjoining f Y j)
+astrayColumn f i j = astrayAlong f X i j || astrayAlong f Y i j
 
 unfoldable pub astray : List ℕ → Bool
 astray f = somePair (bays f X + 1) (bays f Y + 1) (astrayColumn f)
@@ -70,6 +78,9 @@ unequal p q = ltb (5 * q) p || ltb (5 * p) q
 unfoldable pub unequalPanel : List ℕ → ℕ → ℕ → Bool
 unequalPanel f i j =
     unequal (pairAlpha f X j * (span f Y j * span f Y j)) (pairAlpha f Y i * (span f X i * span f X i))
+
+abbrev pub unbalancedPanel : List ℕ → ℕ → ℕ → Bool
+unbalancedPanel f i j = isEverywhere (layoutOf f) && unequalPanel f i j
 
 unfoldable pub unbalanced : List ℕ → Bool
 unbalanced f = isEverywhere (layoutOf f) && somePanel f (unequalPanel f)
