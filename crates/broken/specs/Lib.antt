@@ -1,0 +1,5 @@
+pub mod Listing
+pub mod Laid
+pub mod Meaning
+pub mod Answers
+pub mod Asked
