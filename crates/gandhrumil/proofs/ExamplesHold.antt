@@ -1,11 +1,11 @@
 -- What is said of the examples: refusals, verdicts and the first record by computing, and from them what opening and the change answer.
 -- Assumes nothing.
-use Prim.Native.Nat.{ℕ, _+_, _*_, _<_, zero-le}
-use mathlib.Core.List.{List, []}
-use mathlib.Core.Path.{_≡_, refl, ap, subst, _∙_}
+use Prim.Native.Nat.{ℕ, _+_, _*_, _≤_, _<_, zero-le}
+use mathlib.Core.List.{List, [], _∷_}
+use mathlib.Core.Path.{_≡_, refl, sym, ap, subst, _∙_}
 use native.Mathlib.Omega.{arith}
 use lib.Dec.{eqb}
-use lib.ListN.{getD}
+use lib.ListN.{length, getD}
 use Rattle.changes.specs.Change.{changeOk, changed}
 use Rattle.changes.specs.Refusal.{changeChecks, changeRefusal}
 use Rattle.floor.specs.Refusal.{countOk, everyRecord, firstOk, floorChecks, kindOk, lengthOk, recordOk, refusal, valueChecks}
@@ -34,7 +34,7 @@ use Rattle.thickness.specs.LeastThickness.{answerOf01, divisor, leastThickness,
 use Rattle.floor.proofs.Meaning.{given}
 use Rattle.limits.specs.Meaning.{Broken}
 use Rattle.limits.proofs.Meaning.{broken, clear-is}
-use Rattle.plan.specs.declared.ways.Way.the-variants.{X}
+use Rattle.plan.specs.declared.ways.Way.the-variants.{X, Y}
 use Rattle.tables.specs.Width.{recordWidth}
 use Rattle.tables.specs.Places.{Place, numberOf}
 use Rattle.answers.specs.declared.Answer.{Answer}
@@ -44,6 +44,11 @@ use Rattle.moments.specs.Opening.{Opened}
 use Rattle.moments.proofs.Room.{open-whole, change-whole}
 use Rattle.answers.specs.Answers.{answer}
 use Rattle.clear.specs.Answers.{yesNo, clearOf}
+use Rattle.limits.specs.declared.Limit.the-variants.{Few}
+use Rattle.broken.specs.Listing.{gathered, place, rowPlaces, placesAlong, limitPlaces, placesOf, placeWidth, numbersOf, listedIn}
+use Rattle.broken.specs.Meaning.{PlaceList}
+use Rattle.broken.specs.Answers.{Placed}
+use Rattle.broken.proofs.Answers.{has-room, listed-is}
 use Rattle.gandhrumil.specs.Examples.{oneBay, garage, lighter, firstSpan, Example, Examples}
 use Rattle.gandhrumil.proofs.Demands.{demand-two}
 
@@ -81,7 +86,22 @@ opened-first e j numbers five {l′ = l′} o room n h =
     ∙ told .moments (clear-is (broken garage e) .0 j) first (record { line = zero-le; span = omega (arith, five) }) .0 n h
     ∙ ap (λ (r : List ℕ). getD r n 0) numbers
 
+-- ---- their places
+
+located : (f : List ℕ) {ps : PlaceList} → refusal f ≡ 0 → placesOf f ≡ ps → {t t′ : List ℕ} {a : Answer} → Placed f t a t′ → length ps * placeWidth ≤ length t
+    → (a ≡ answer 0 (length ps)) × (t′ ≡ listedIn ps t)
+located f e j {t} p room =
+    let r = listed-is f t (has-room f (length t) e (rw j room)) in (p .answer ∙ sym (r .answer) ∙ rw j, p .slice ∙ sym (r .slice) ∙ rw j)
+
+abbrev bothFew : PlaceList
+bothFew = place Few X 0 0 ∷ place Few Y 0 0 ∷ []
+
+placed : (placesOf oneBay ≡ bothFew) × (placesOf garage ≡ [])
+unfolding placesOf limitPlaces placesAlong rowPlaces gathered layoutOf adjoining few heavy slenderPanel thinPanel unequalPanel below clearSpan lineAlpha outerPanel pairAlpha panelPlace panelThickness panelView weakEdge le16 le32 bays offset value countOf startOf alpha frameWidth flangedInertia inertia flange answerOf01 divisor leastThickness middling raised raises stiff tabled kept keptAlong until keeps
+placed = (refl, refl)
+
 pub examples-hold : Examples
+unfolding numbersOf
 examples-hold =
     let (one-accepted, one-verdict, accepted, clear, taken, accepted-after, clear-after, numbers, five, nothing) = computed in
     record {
@@ -90,5 +110,7 @@ examples-hold =
       first = opened-first accepted clear numbers five;
       taken = λ {l = l} o room. o .answer ∙ rw (change-whole garage l lighter taken room, clear-after);
       after = example accepted-after clear-after;
+      one-bay-places = λ p room. located oneBay one-accepted (placed .0) p room;
+      garage-places = λ p. located garage accepted (placed .1) p zero-le;
       nothing = nothing;
     }

@@ -1,10 +1,10 @@
 -- Two floors and a change written out, to show that the promises are not vacuous. proofs/ExamplesHold shows what is said of them, by computing.
 -- Assumes nothing.
-use Prim.Native.Nat.{ℕ, zero, suc, _/_, _%_, _<_}
+use Prim.Native.Nat.{ℕ, zero, suc, _/_, _%_, _≤_, _<_}
 use mathlib.Core.List.{List, [], _∷_, _++_}
 use mathlib.Core.Path.{_≡_}
 use lib.Dec.{eqb}
-use lib.ListN.{getD}
+use lib.ListN.{length, getD, drop}
 use Rattle.floor.specs.Refusal.{Given}
 use Rattle.changes.specs.Change.{changed}
 use Rattle.limits.specs.Meaning.{Broken}
@@ -12,6 +12,7 @@ use Rattle.tables.specs.Width.{recordWidth}
 use Rattle.answers.specs.declared.Answer.{Answer}
 use Rattle.answers.specs.Answers.{answer}
 use Rattle.clear.specs.Answers.{yesNo, clearOf}
+use Rattle.broken.specs.Answers.{Placed}
 use Rattle.moments.specs.Lent.{Lent}
 use Rattle.moments.specs.Tables.{Lodged}
 use Rattle.moments.specs.Opening.{Opened}
@@ -98,5 +99,9 @@ pub record Examples : Type 0 where
   -- a change that is taken, clear before and after
   pub taken : {l l′ : Lent} {a : Answer} {f′ : List ℕ} → Changed garage l lighter a f′ l′ → Lodged garage l → a ≡ answer 0 0
   pub after : Example (changed garage lighter) 0
+  -- the floor of one bay has too few along x and along y, and the garage is broken nowhere
+  pub one-bay-places : {t t′ : List ℕ} {a : Answer} → Placed oneBay t a t′ → 8 ≤ length t
+      → (a ≡ answer 0 2) × (t′ ≡ 1 ∷ 0 ∷ 0 ∷ 0 ∷ 1 ∷ 1 ∷ 0 ∷ 0 ∷ drop 8 t)
+  pub garage-places : {t t′ : List ℕ} {a : Answer} → Placed garage t a t′ → (a ≡ answer 0 0) × (t′ ≡ t)
   -- no bytes at all: not clear, refused 1
   pub nothing : clearOf [] ≡ answer 1 0
