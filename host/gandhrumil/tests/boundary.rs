@@ -46,12 +46,12 @@ fn a_pointer_may_be_anything_where_its_length_is_0() {
 }
 
 #[test]
-fn the_five_calls_from_c() {
+fn the_six_calls_from_c() {
     run("figures", C);
 }
 
 #[test]
-fn the_five_calls_from_cpp() {
+fn the_six_calls_from_cpp() {
     run("figures", CPP);
 }
 
@@ -73,4 +73,10 @@ fn one_version() {
     let header = first_number("include/gandhrumil.h", "#define GANDHRUMIL_VERSION ");
     assert_eq!(gandhrumil::VERSION, header);
     assert_eq!(first_number("docs/CHANGES.md", "## Version "), header);
+}
+
+#[test]
+fn one_length_of_places() {
+    let header = first_number("include/gandhrumil.h", "#define GANDHRUMIL_PLACES_LEN ");
+    assert_eq!(gandhrumil::PLACES_LEN, header as usize);
 }
