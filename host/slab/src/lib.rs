@@ -10,3 +10,4 @@ pub mod judge;
 pub mod output;
 pub mod say;
 pub mod text;
+pub mod way;
