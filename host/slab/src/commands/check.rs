@@ -1,6 +1,7 @@
 //! `slab check`: the refusal or the verdict in words, and each panel's least thickness. It shows no moment.
 
-use super::{arguments, Command, Ended, Status};
+use super::arguments::Arguments;
+use super::{Command, Ended, Status};
 use crate::given::Given;
 use crate::judge::{judge, Judged};
 use crate::{output, say};
@@ -22,7 +23,7 @@ Exit status: 0 clear, 1 not clear, 2 refused, 3 where there is no floor to check
 };
 
 fn run(words: &[OsString]) -> Ended {
-    let given = Given::read(arguments::input(&COMMAND, words)?)?;
+    let given = Given::read(Arguments::read(&COMMAND, words)?.input)?;
     let (words, status) = match judge(&given.file) {
         Judged::Refused(number) => (say::refusal::page(number, &given), Status::Refused),
         Judged::Accepted(accepted) => {
