@@ -62,6 +62,16 @@ fn check_shows_no_moment() {
     }
 }
 
+/// With `--all` too, of a floor that breaks nothing.
+#[test]
+fn nothing_is_listed_of_a_clear_floor() {
+    let (some, all) = (
+        slab_on(&["check", "-"], &floor()),
+        slab_on(&["check", "--all", "-"], &floor()),
+    );
+    assert_eq!((some.status, some.words()), (0, all.words()));
+}
+
 /// The README shows it.
 #[test]
 fn check_as_the_readme_has_it() {
@@ -70,5 +80,18 @@ fn check_as_the_readme_has_it() {
     let said = Ran::from(command.current_dir(root("")).output().unwrap());
     for line in said.words().lines().filter(|line| !line.is_empty()) {
         assert!(readme.contains(&format!("\n    {line}\n")), "{line}");
+    }
+}
+
+/// The same places of a floor file and of its text.
+#[test]
+fn places_of_either_form() {
+    let text = String::from_utf8(text()).unwrap();
+    let moved = text.replace("7500 7200", "9900 4800").into_bytes();
+    let file = slab_on(&["make", "-"], &moved).stdout;
+    for words in [&["check", "-"][..], &["check", "--all", "-"]] {
+        let (of_text, of_file) = (slab_on(words, &moved), slab_on(words, &file));
+        assert_eq!((of_text.status, of_file.status), (1, 1));
+        assert_eq!(of_text.words(), of_file.words());
     }
 }
