@@ -20,7 +20,7 @@
 #define GANDHRUMIL_VERSION 6
 
 /* A call uses less than GANDHRUMIL_STACK bytes of stack. Measured on floors of 12 by 12 bays, clear and not, the deepest uses less
- * than 6 KiB on aarch64, and in version 1 on x86-64 too, under an emulator; the rest is margin. */
+ * than 7 KiB on aarch64, and in version 1 on x86-64 too, under an emulator; the rest is margin. */
 #define GANDHRUMIL_STACK 16384
 
 /* Room for the places of any floor: there are no more than 793, of four numbers each. */
