@@ -1,6 +1,7 @@
 //! Floors to hold the printing program against. What has to be printed for them is worked out, never
 //! written here.
 
+pub mod all_broken;
 mod beams;
 pub mod drawn;
 mod edges;
@@ -49,6 +50,7 @@ pub fn all() -> Vec<Described> {
         edges::floors(),
         spoilt::floors(),
         tied::floors(),
+        all_broken::floors(),
         refused::floors(),
     ]
     .into_iter()
