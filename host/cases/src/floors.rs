@@ -7,6 +7,7 @@ pub mod drawn;
 mod edges;
 pub mod long;
 pub mod refused;
+pub mod scattered;
 pub mod single;
 pub mod small;
 mod spoilt;
@@ -51,6 +52,7 @@ pub fn all() -> Vec<Described> {
         spoilt::floors(),
         tied::floors(),
         all_broken::floors(),
+        scattered::floors(),
         refused::floors(),
     ]
     .into_iter()

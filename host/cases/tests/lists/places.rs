@@ -1,12 +1,14 @@
 //! The two lists of broken places held together, and floors that are broken everywhere.
 
 use crate::floors::all_floors;
+use cases::draw::Draw;
 use cases::floors::all_broken::{self, all_broken};
-use cases::floors::single;
+use cases::floors::scattered::scattered;
+use cases::floors::{single, LAYOUTS};
 use cases::places::broken;
 use reference::places::{broken_places, Place, ALWAYS_SUFFICE, NUMBERS};
 use reference::verdict::judge;
-use std::collections::BTreeSet;
+use std::collections::{BTreeMap, BTreeSet};
 
 /// "a place is listed exactly where its limit's statement holds there, each once, in that order; the sum of the limits
 /// listed is the verdict"
@@ -74,4 +76,24 @@ fn as_many_places_as_there_can_be() {
     assert!(all
         .iter()
         .any(|floor| floor.bytes == all_broken(12, 12).bytes()));
+}
+
+/// Of each limit that has several places: floors with some of them broken and some not, one of five at the least.
+#[test]
+fn broken_here_and_there() {
+    let mut draw = Draw::starting_at(1);
+    let mut in_part = BTreeMap::new();
+    for number in 0..300 {
+        let (layout, _) = LAYOUTS[number % 3];
+        let floor = scattered(&mut draw, (4, 3), layout).bytes();
+        let places = broken_places(&floor);
+        for (limit, most) in counts(4, 3) {
+            let of_limit = places.iter().filter(|place| place.limit == limit);
+            if (1..most).contains(&of_limit.count()) {
+                *in_part.entry(limit).or_insert(0) += 1;
+            }
+        }
+    }
+    assert!(in_part.keys().eq(&[2, 4, 8, 32, 64]), "{in_part:?}");
+    assert!(in_part.values().all(|&floors| floors >= 60), "{in_part:?}");
 }
