@@ -19,6 +19,7 @@ use drawn::Wanted;
 use floor::Floor;
 use reference::layout::Layout;
 
+#[derive(Clone, Debug)]
 pub struct Described {
     pub description: String,
     pub bytes: Vec<u8>,

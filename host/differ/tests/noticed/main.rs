@@ -22,7 +22,7 @@ use gandhrumil::{Answer, Query};
 use std::sync::LazyLock;
 
 const FEW: Amount = Amount {
-    floors: 400,
+    floors: 500,
     flipped: 0,
     changes: 2_000,
     queries: 2_000,
