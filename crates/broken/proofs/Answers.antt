@@ -1,15 +1,17 @@
 -- The answer is what `PlacesAnswer` asks, and no other is: its number is the one that is given, and the floor's places are one list.
---     floor-refuses, no-room, has-room    which number is given
+--     floor-refuses, counted-room, no-room, has-room     which number is given
 --     refused-is, listed-is, too-short, written     the answer and the slice by that number
 --     places-answer, places-answer-one    by statements, and no second answer
 -- Assumes nothing.
-use Prim.Native.Nat.{ℕ, _+_, _*_, _≤_, _<_}
+use Prim.Native.Nat.{ℕ, _+_, _*_, _≤_}
+use mathlib.Core.Bool.{Bool, true, false, not}
 use mathlib.Core.List.{List, []}
 use mathlib.Core.Path.{_≡_, refl, sym, ap, _∙_}
 use native.Mathlib.Nat.{zero-add}
 use native.Mathlib.Omega.{arith}
+use lib.Dec.{leb}
 use lib.ListN.{length}
-use borrow.Author.Tests.{ne-eqb, le-leb, lt-leb}
+use borrow.Author.Tests.{ne-eqb, le-leb, not-true, not-false}
 use Rattle.numbers.specs.Chains.{Sound}
 use Rattle.numbers.specs.Chains.Sound.{done, _then_}
 use Rattle.numbers.proofs.Tests.{says-le, says-eq, by-says}
@@ -33,10 +35,15 @@ module _ (f : List ℕ) (n : ℕ) where
   unfolding placesRefusal placesChecks refusal
   floor-refuses e h = stands (floorChecks f) _ e h
 
+  -- the count, held against the length
+  pub counted-room : {m : ℕ} → m ≡ 0 + length (placesOf f) → leb (m * placeWidth) n ≡ hasRoom f n
+  unfolding hasRoom
+  counted-room e = rw (e ∙ zero-add (length (placesOf f)))
+
   module _ (e : refusal f ≡ 0) where
-    pub no-room : ¬ (length (placesOf f) * placeWidth ≤ n) → 25 ≡ placesRefusal f n
-    unfolding placesRefusal placesChecks refusal hasRoom
-    no-room h = decides (sound-floor f) _ refl e (stopped 25 (hasRoom f n) (HasRoom f n) [] (lt-leb (length (placesOf f) * placeWidth) n (omega (arith, h))))
+    pub no-room : hasRoom f n ≡ false → 25 ≡ placesRefusal f n
+    unfolding placesRefusal placesChecks refusal
+    no-room h = decides (sound-floor f) _ refl e (stopped 25 (hasRoom f n) (HasRoom f n) [] h)
 
     pub has-room : length (placesOf f) * placeWidth ≤ n → 0 ≡ placesRefusal f n
     unfolding placesRefusal placesChecks refusal hasRoom
@@ -61,19 +68,17 @@ module _ (f t : List ℕ) where
   unfolding placesAnswer placesLeft
   listed-is e = record { answer = rw (← e); slice = rw (← e) }
 
-  module _ (e : refusal f ≡ 0) {n : ℕ} (count : n ≡ 0 + length (placesOf f)) where
-    pub too-short : length t < n * placeWidth → Placed f t (answer 25 0) t
-    too-short h =
-        let c : n ≡ length (placesOf f) = count ∙ zero-add (length (placesOf f)) in
-        refused-is (no-room f (length t) e (λ q. omega (arith, h, q, c))) (λ z. omega (arith, z))
+  -- r answers whether there is room
+  module _ (e : refusal f ≡ 0) {r : Bool} (asked : r ≡ hasRoom f (length t)) where
+    pub too-short : not r ≡ true → Placed f t (answer 25 0) t
+    too-short h = refused-is (no-room f (length t) e (sym asked ∙ not-true r h)) (λ z. omega (arith, z))
 
-    pub written : ¬ (length t < n * placeWidth) → {m : ℕ} {u : List ℕ} → Listed 0 (placesOf f) t m u
-        → Placed f t (answer 0 n) u
+    pub written : not r ≡ false → {m : ℕ} {u : List ℕ} → Listed 0 (placesOf f) t m u → Placed f t (answer 0 m) u
+    unfolding hasRoom
     written h l =
-        let c : n ≡ length (placesOf f) = count ∙ zero-add (length (placesOf f)) in
-        let room : length (placesOf f) * placeWidth ≤ length t = omega (arith, h, c) in
-        let r = listed-is (has-room f (length t) e room) in
-        record { answer = ap (answer 0) c ∙ r .answer; slice = l .slice ∙ laid-in (placesOf f) t room ∙ r .slice }
+        let room : length (placesOf f) * placeWidth ≤ length t = says-le (length (placesOf f) * placeWidth) (length t) .holds (sym asked ∙ not-false r h) in
+        let q = listed-is (has-room f (length t) e room) in
+        record { answer = ap (answer 0) (l .count ∙ zero-add (length (placesOf f))) ∙ q .answer; slice = l .slice ∙ laid-in (placesOf f) t room ∙ q .slice }
 
   -- ---- by statements
 

@@ -1,7 +1,7 @@
 -- How many numbers always suffice: a limit has no more places than its extent, and a floor of which limit 1 is broken has few panels.
---     along-most     the places of a limit along d are no more than its rows times its columns
---     suffices       793 places are the most
---     never-short    with so many numbers the floor's own number is given
+--     along-most                 the places of a limit along d are no more than its rows times its columns
+--     suffices                   793 places are the most
+--     sure-room, never-short     so many numbers have room, and the floor's own number is given
 -- Assumes nothing.
 use Prim.Native.Nat.{ℕ, zero, suc, _+_, _*_, _-_, _≤_}
 use mathlib.Core.Bool.{Bool, true, false}
@@ -11,7 +11,7 @@ use native.Mathlib.Decide.{decLt}
 use native.Mathlib.Nat.{mul-le-mul, suc-mul}
 use native.Mathlib.Omega.{arith}
 use lib.ListN.{length, length-append}
-use borrow.Author.Tests.{le-ltb}
+use borrow.Author.Tests.{le-ltb, le-leb}
 use Rattle.numbers.proofs.Tests.{says-eq, by-says}
 use Rattle.plan.specs.declared.ways.Way.{Way}
 use Rattle.plan.specs.declared.ways.Way.the-variants.{X, Y}
@@ -23,7 +23,7 @@ use Rattle.limits.specs.declared.Limit.the-variants.{Few, Slender, Uneven, Astr
 use Rattle.limits.specs.Places.{limitAt, extent, brokenAt}
 use Rattle.broken.specs.declared.Place.{Place}
 use Rattle.broken.specs.Listing.{gathered, whether, place, onePlace, rowPlaces, placesAlong, limitPlaces, placesOf, placeWidth}
-use Rattle.broken.specs.Answers.{placesRefusal, placesMost}
+use Rattle.broken.specs.Answers.{hasRoom, placesRefusal, placesMost}
 use Rattle.broken.proofs.Answers.{floor-refuses, has-room}
 
 gathered-most : (n w : ℕ) (g : ℕ → List Place) → ((k : ℕ) → length (g k) ≤ w) → length (gathered n g) ≤ n * w
@@ -112,6 +112,10 @@ module _ (f : List ℕ) where
                   omega (arith, total 12 12 0 (bays-most f X) (bays-most f Y) none)
             ]
       ]
+
+  pub sure-room : (n : ℕ) → placesMost ≤ n → true ≡ hasRoom f n
+  unfolding hasRoom
+  sure-room n h = sym (le-leb (length (placesOf f) * placeWidth) n (omega (arith, h, suffices)))
 
   pub never-short : (n : ℕ) → placesMost ≤ n → placesRefusal f n ≡ refusal f
   never-short n h =

@@ -6,7 +6,7 @@ ghost use Rattle.floor.specs.Asked.{Accepted};
 ghost use Rattle.limits.specs.Places.{undirected, extent, brokenAt};
 ghost use Rattle.broken.specs.Listing.{rowPlaces, placesAlong, limitPlaces, placesOf};
 ghost use Rattle.broken.specs.Laid.{noted, Listed};
-ghost use Rattle.broken.specs.Answers.{Placed};
+ghost use Rattle.broken.specs.Answers.{hasRoom, Placed};
 ghost use Rattle.broken.specs.Asked.{SomeBays, AtPlace, InRow, Along, OfLimit, Judged, Counted};
 use answers::Answer;
 use answers::refused_query;
@@ -29,8 +29,10 @@ use plan::ways::Way;
 use plan::ways::pick;
 use tables::write::write_at;
 
-// How many numbers a place has.
+// How many numbers a place has, and how many suffice for the places of any floor.
 const PLACE: usize = 4;
+
+const SUFFICES: usize = 3172;
 
 // A limit without a direction has its places under x.
 fn undirected(d: Way, b: Bays) -> Bays
@@ -210,7 +212,27 @@ fn list_all(
     n
 }
 
-// Of an accepted floor: the places are counted before the first is written.
+// Is there room for all of them in a slice of this length? They are counted where one may be too short.
+fn has_room(
+    f: &[u8],
+    slab: Slab,
+    spans: &[[u64; 13]; 2],
+    alphas: &[[u64; 13]; 2],
+    v: u32,
+    length: usize,
+) -> bool
+    requires { ⌜ Judged (now f) slab (now spans) (now alphas) v ⌝ }
+    ensures { λ r. ⌜ r ≡ hasRoom (now (f .entry)) length ⌝ }
+{
+    if SUFFICES <= length {
+        return true;
+    }
+    let mut none = [0u32; 1];
+    let n = list_all(f, slab, spans, alphas, v, &mut none);
+    (n as usize) * PLACE <= length
+}
+
+// Of an accepted floor: nothing is written before there is room for all.
 fn list(f: &[u8], places: &mut [u32]) -> Answer
     requires { ⌜ Accepted (now f) ⌝ }
     ensures { λ r. ⌜ Placed (now (f .entry)) (now (places .entry)) r (now (places .exit)) ⌝ }
@@ -219,13 +241,10 @@ fn list(f: &[u8], places: &mut [u32]) -> Answer
     let s = spans(f, slab.bays);
     let a = alphas(f, slab, &s);
     let v = verdict::broken(f, slab, &s, &a);
-    let mut no_room = [0u32; 1];
-    let n = list_all(f, slab, &s, &a, v, &mut no_room);
-    if places.len() < (n as usize) * PLACE {
+    if !has_room(f, slab, &s, &a, v, places.len()) {
         return refused_query(25);
     }
-    list_all(f, slab, &s, &a, v, places);
-    success(n)
+    success(list_all(f, slab, &s, &a, v, places))
 }
 
 // Every place where a limit is broken: how many there are, with four numbers for each in the slice.

@@ -1,7 +1,6 @@
--- Counted first: 25, or room for all of them.
+-- No room, or room for all of them.
 -- Assumes nothing.
 use mathlib.Core.Path.{_∙_}
-use native.Mathlib.Omega.{arith}
 use borrow.Author.Needs.{needs}
 use Rattle.lines.proofs.Slabs.{sized-of}
 use Rattle.broken.proofs.Answers.{too-short, written}
@@ -16,13 +15,10 @@ list-spec =
     (λ c κs. sized-of _ (c .slab-of .ensures))
     (λ c κs. search needs)
     (λ c κs. search needs)
-    (λ c. search needs)
     (λ c κs. search needs)
-    (λ c. search needs)
-    (λ c. search needs)
     (λ c κs. search needs)
-    (λ c. let r = too-short _ _ (c .before .before .before .before .before .before .before .before .before .before .before .before .before .before .before .before .pre .accepted) (c .before .before .before .list-all .ensures .0 .count) (c .before .if1 .taken) in record { answer = c .refused-query .ensures ∙ r .answer; slice = r .slice })
+    (λ c. let r = too-short _ _ (c .before .before .before .before .before .before .before .before .before .before .before .before .before .before .pre .accepted) (c .before .before .has-room .ensures) (c .before .if1 .taken) in record { answer = c .refused-query .ensures ∙ r .answer; slice = r .slice })
     (λ c κs. search needs)
     (λ c κs. search needs)
     (λ c. search needs)
-    (λ c. let r = written _ _ (c .before .before .before .before .before .before .before .before .before .before .before .before .before .before .before .before .before .before .before .before .before .before .pre .accepted) (c .before .before .before .before .before .before .before .before .before .list-all .ensures .0 .count) (λ h. omega (arith, h, c .before .before .before .before .before .before .before .if1 .left)) (c .before .before .before .list-all2 .ensures .0) in record { answer = c .success .ensures ∙ r .answer; slice = r .slice }))
+    (λ c. let r = written _ _ (c .before .before .before .before .before .before .before .before .before .before .before .before .before .before .before .before .before .before .before .before .pre .accepted) (c .before .before .before .before .before .before .before .before .has-room .ensures) (c .before .before .before .before .before .before .before .if1 .left) (c .before .before .before .list-all .ensures .0) in record { answer = c .success .ensures ∙ r .answer; slice = r .slice }))
