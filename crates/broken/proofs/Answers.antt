@@ -22,7 +22,8 @@ use Rattle.answers.specs.declared.Answer.{Answer}
 use Rattle.answers.specs.Answers.{answer}
 use Rattle.answers.proofs.Answers.{same-answer}
 use Rattle.broken.specs.declared.Place.{Place}
-use Rattle.broken.specs.Listing.{placesOf, placeWidth, listedIn}
+use Rattle.broken.specs.Numbers.{placeWidth, listedIn}
+use Rattle.broken.specs.Listing.{placesOf}
 use Rattle.broken.specs.Laid.{Listed}
 use Rattle.broken.specs.Answers.{hasRoom, HasRoom, placesChecks, placesRefusal, placesAnswer, placesLeft, Placed, PlacesAnswer}
 use Rattle.broken.proofs.Laid.{laid-in}

@@ -17,7 +17,8 @@ use Rattle.numbers.specs.Records.{put}
 use Rattle.numbers.proofs.Tests.{says-le, by-test}
 use Rattle.numbers.proofs.Records.{length-put}
 use Rattle.broken.specs.declared.Place.{Place}
-use Rattle.broken.specs.Listing.{gathered, whether, placeWidth, fourOf, numbersOf, listedIn}
+use Rattle.broken.specs.Numbers.{placeWidth, fourOf, numbersOf, listedIn}
+use Rattle.broken.specs.Listing.{gathered, whether}
 use Rattle.broken.specs.Laid.{noted, laid, Listed}
 
 module _ (n : ℕ) (p : Place) (t : List ℕ) where

@@ -16,8 +16,8 @@ use Rattle.numbers.proofs.Tests.{at, says-eq, says-or, says-as, says-never, say
 use Rattle.floor.specs.Refusal.{refusal}
 use Rattle.limits.specs.declared.Limit.{Limit}
 use Rattle.limits.specs.declared.Limit.the-variants.{Few, Slender, Uneven, Astray, Heavy, Unbalanced, Thin}
-use Rattle.limits.specs.Places.{number, limitAt}
-use Rattle.limits.specs.Meaning.{BrokenAt, SomePlace, Broken, Clear}
+use Rattle.limits.specs.Places.{limitAt}
+use Rattle.limits.specs.Meaning.{number, BrokenAt, SomePlace, Broken, Clear}
 use Rattle.limits.proofs.Digits.{digits, sum-most, says-digit}
 use Rattle.broken.specs.declared.Place.{Place}
 use Rattle.broken.specs.Listing.{limitPlaces, placesOf}

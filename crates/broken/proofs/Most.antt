@@ -6,7 +6,7 @@
 use Prim.Native.Nat.{ℕ, zero, suc, _+_, _*_, _-_, _≤_}
 use mathlib.Core.Bool.{Bool, true, false}
 use mathlib.Core.List.{List}
-use mathlib.Core.Path.{_≡_, refl, sym, _∙_}
+use mathlib.Core.Path.{_≡_, refl, sym, ap, _∙_}
 use native.Mathlib.Decide.{decLt}
 use native.Mathlib.Nat.{mul-le-mul, suc-mul}
 use native.Mathlib.Omega.{arith}
@@ -18,13 +18,15 @@ use Rattle.plan.specs.declared.ways.Way.the-variants.{X, Y}
 use Rattle.plan.specs.Plan.{bays, baysOf}
 use Rattle.plan.proofs.Reading.{bays-most}
 use Rattle.floor.specs.Refusal.{refusal}
+use Rattle.answers.specs.declared.Answer.{Answer}
 use Rattle.limits.specs.declared.Limit.{Limit}
 use Rattle.limits.specs.declared.Limit.the-variants.{Few, Slender, Uneven, Astray, Heavy, Unbalanced, Thin}
 use Rattle.limits.specs.Places.{limitAt, extent, brokenAt}
 use Rattle.broken.specs.declared.Place.{Place}
-use Rattle.broken.specs.Listing.{gathered, whether, place, onePlace, rowPlaces, placesAlong, limitPlaces, placesOf, placeWidth}
-use Rattle.broken.specs.Answers.{hasRoom, placesRefusal, placesMost}
-use Rattle.broken.proofs.Answers.{floor-refuses, has-room}
+use Rattle.broken.specs.Numbers.{placeWidth}
+use Rattle.broken.specs.Listing.{gathered, whether, place, onePlace, rowPlaces, placesAlong, limitPlaces, placesOf}
+use Rattle.broken.specs.Answers.{hasRoom, Placed, placesMost}
+use Rattle.broken.proofs.Answers.{floor-refuses, has-room, refused-is, listed-is}
 
 gathered-most : (n w : ℕ) (g : ℕ → List Place) → ((k : ℕ) → length (g k) ≤ w) → length (gathered n g) ≤ n * w
 unfolding gathered
@@ -117,6 +119,8 @@ module _ (f : List ℕ) where
   unfolding hasRoom
   sure-room n h = sym (le-leb (length (placesOf f) * placeWidth) n (omega (arith, h, suffices)))
 
-  pub never-short : (n : ℕ) → placesMost ≤ n → placesRefusal f n ≡ refusal f
-  never-short n h =
-      by-says (says-eq (refusal f) 0) (λ z. sym (has-room f n z (omega (arith, h, suffices))) ∙ sym z) (λ ne. sym (floor-refuses f n refl ne))
+  pub never-short : {t u : List ℕ} {a : Answer} → Placed f t a u → placesMost ≤ length t → refusal f ≡ a .refusal
+  never-short {t} p h =
+      by-says (says-eq (refusal f) 0)
+      (λ z. z ∙ sym (ap (λ (x : Answer). x .refusal) (p .answer ∙ sym (listed-is f t (has-room f (length t) z (omega (arith, h, suffices))) .answer))))
+      (λ ne. sym (ap (λ (x : Answer). x .refusal) (p .answer ∙ sym (refused-is f t (floor-refuses f (length t) refl ne) ne .answer))))

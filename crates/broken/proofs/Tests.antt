@@ -4,10 +4,10 @@
 --     at-place, place-as, ..-asks   a place of a row; and once its limit is known, what that limit's test asks
 -- Assumes nothing.
 use Prim.Native.Nat.{ℕ, _+_, _*_, _<_, _≤_}
+use mathlib.Core.Bool.{Bool}
 use mathlib.Core.List.{List}
 use mathlib.Core.Path.{_≡_, subst, ap, _∙_}
 use native.Mathlib.Omega.{arith}
-use lib.Dec.{ltb}
 use Rattle.plan.specs.declared.ways.Way.{Way}
 use Rattle.plan.specs.declared.ways.Way.the-variants.{X, Y}
 use Rattle.plan.specs.Ways.{pick}
@@ -20,6 +20,7 @@ use Rattle.lines.proofs.Slabs.{sized-of, bays-of}
 use Rattle.lines.proofs.Filled.{at-panel}
 use Rattle.limits.specs.declared.Limit.{Limit}
 use Rattle.limits.specs.declared.Limit.the-variants.{Few, Slender, Uneven, Astray, Heavy, Unbalanced, Thin}
+use Rattle.limits.specs.Limits.{tooFew}
 use Rattle.limits.specs.Places.{extent}
 use Rattle.limits.specs.Meaning.{PanelAt, PlaceOf}
 use Rattle.limits.proofs.Places.{in-place}
@@ -33,8 +34,8 @@ module _ {f : List ℕ} {slab : Slab} {s : List (List ℕ)} (p : Surveyed f slab
       let n = fair f (p .accepted) .bays-in in
       record { x-some = omega (arith, b X .0, n X); x-most = omega (arith, b X .0, n X); y-some = omega (arith, b Y .0, n Y); y-most = omega (arith, b Y .0, n Y) }
 
-  pub few-at : (d : Way) {n : ℕ} → n ≡ pick d (slab .bays .x) (slab .bays .y) → ltb n 3 ≡ ltb (bays f d) 3
-  few-at d e = rw (e, bays-of f (p .shared) d .0)
+  pub few-at : (d : Way) {n : ℕ} {b : Bool} → n ≡ pick d (slab .bays .x) (slab .bays .y) → b ≡ tooFew n → b ≡ tooFew (bays f d)
+  few-at d e q = q ∙ rw (e, bays-of f (p .shared) d .0)
 
 -- ---- the extent of a limit's places
 
@@ -75,7 +76,7 @@ pub in-row : {f : List ℕ} {slab : Slab} {s a : List (List ℕ)} {n : ℕ} → 
 in-row p l d q h few =
     let r = p .ready .surveyed in
     let y = ap (λ (b : Bays). b .y) (extent-is r l d q) in
-    record { ready = p .ready; row = omega (arith, h, y); few = omega (arith, h, few, p .few, extent-most r l d q) }
+    record { ready = p .ready; row = omega (arith, h, y); most = omega (arith, h, few, p .most, extent-most r l d q) }
 
 -- ---- a place
 

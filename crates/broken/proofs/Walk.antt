@@ -13,8 +13,9 @@ use Rattle.floor.specs.Refusal.{refusal}
 use Rattle.lines.specs.declared.slab.Slab.{Slab}
 use Rattle.lines.specs.Asked.{Surveyed}
 use Rattle.limits.specs.declared.Limit.{Limit}
+use Rattle.limits.specs.Meaning.{number}
 use Rattle.limits.specs.Limits.{verdict}
-use Rattle.limits.specs.Places.{number, limitAt, extent}
+use Rattle.limits.specs.Places.{limitAt, extent}
 use Rattle.limits.proofs.Meaning.{broken}
 use Rattle.broken.specs.declared.Place.{Place}
 use Rattle.broken.specs.Listing.{gathered, onePlace, rowPlaces, placesAlong, limitPlaces, placesOf}

@@ -14,10 +14,11 @@ use Rattle.floor.specs.Refusal.{floorChecks}
 use Rattle.answers.specs.declared.Answer.{Answer}
 use Rattle.answers.specs.Answers.{answer}
 use Rattle.broken.specs.declared.Place.{Place}
-use Rattle.broken.specs.Listing.{placesOf, placeWidth, listedIn}
+use Rattle.broken.specs.Numbers.{placeWidth, listedIn}
+use Rattle.broken.specs.Listing.{placesOf}
 use Rattle.broken.specs.Meaning.{Places}
 
--- n numbers have room for the places of floor f
+-- n numbers have room for the places of floor f; on an accepted floor, and 25 is tried on no other, `placesOf f` is the one list with `Places f`
 unfoldable pub hasRoom : List ℕ → ℕ → Bool
 hasRoom f n = leb (length (placesOf f) * placeWidth) n
 
@@ -44,12 +45,12 @@ pub record Placed (f t : List ℕ) (a : Answer) (t′ : List ℕ) : Type 0 where
   pub answer : a ≡ placesAnswer f (length t)
   pub slice : t′ ≡ placesLeft f t
 
--- so many numbers always suffice (proofs/Most); the largest floor that is broken wherever it can be has 793 places
-abbrev pub placesMost : ℕ
-placesMost = 3172
-
 -- the same by statements
 pub record PlacesAnswer (f t : List ℕ) (a : Answer) (t′ : List ℕ) : Type 0 where
   pub given : GivenBy (placesChecks f (length t)) (a .refusal)
   pub refused : ¬ (a .refusal ≡ 0) → (a .value ≡ 0) × (t′ ≡ t)
   pub listed : a .refusal ≡ 0 → (ps : List Place) × Places f ps × (a .value ≡ length ps) × (t′ ≡ listedIn ps t)
+
+-- so many numbers always suffice (proofs/Most): a floor of 12 by 12 bays that is broken wherever it can be has 793 places
+abbrev pub placesMost : ℕ
+placesMost = 3172

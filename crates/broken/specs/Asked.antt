@@ -25,23 +25,25 @@ pub record AtPlace (f : List ℕ) (slab : Slab) (s a : List (List ℕ)) (l : Lim
   pub ready : Ready f slab s a
   pub place : PlaceOf f l d i j
 
--- n places were listed
+-- n places are listed
 pub record Counted (n : ℕ) : Type 0 where
-  pub few : n ≤ 5000
+  pub most : n ≤ 5000
 
--- n places were listed before row j of a limit's places along d, before all of them, and before those of a limit
+-- row j of a limit's places along d, after n places
 pub record InRow (f : List ℕ) (slab : Slab) (s a : List (List ℕ)) (l : Limit) (d : Way) (j n : ℕ) : Type 0 where
   pub ready : Ready f slab s a
   pub row : j < extent l d (baysOf f) .y
-  pub few : n ≤ 4000
+  pub most : n ≤ 4000
 
+-- a direction of a limit, after n places
 pub record Along (f : List ℕ) (slab : Slab) (s a : List (List ℕ)) (n : ℕ) : Type 0 where
   pub ready : Ready f slab s a
-  pub few : n ≤ 3500
+  pub most : n ≤ 3500
 
+-- a limit, after n places
 pub record OfLimit (f : List ℕ) (slab : Slab) (s a : List (List ℕ)) (n : ℕ) : Type 0 where
   pub ready : Ready f slab s a
-  pub few : n ≤ 3000
+  pub most : n ≤ 3000
 
 -- v is the floor's verdict
 pub record Judged (f : List ℕ) (slab : Slab) (s a : List (List ℕ)) (v : ℕ) : Type 0 where

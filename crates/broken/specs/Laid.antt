@@ -9,7 +9,7 @@ use lib.Dec.{leb}
 use lib.ListN.{length}
 use Rattle.numbers.specs.Records.{put}
 use Rattle.broken.specs.declared.Place.{Place}
-use Rattle.broken.specs.Listing.{placeWidth, fourOf}
+use Rattle.broken.specs.Numbers.{placeWidth, fourOf}
 
 -- p as place n
 unfoldable pub noted : ℕ → Place → List ℕ → List ℕ

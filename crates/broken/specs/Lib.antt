@@ -1,3 +1,4 @@
+pub mod Numbers
 pub mod Listing
 pub mod Laid
 pub mod Meaning

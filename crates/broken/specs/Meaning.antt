@@ -9,10 +9,11 @@ use mathlib.Core.Path.{_≡_}
 use lib.Dec.{eqb}
 use Rattle.plan.specs.Ways.{pick}
 use Rattle.limits.specs.declared.Limit.{Limit}
-use Rattle.limits.specs.Places.{number, sumPicked}
-use Rattle.limits.specs.Meaning.{BrokenAt}
+use Rattle.limits.specs.Limits.{sumPicked}
+use Rattle.limits.specs.Meaning.{number, BrokenAt}
 use Rattle.broken.specs.declared.Place.{Place}
 
+-- by this name where a span's place in the table is a place too
 abbrev pub PlaceList : Type 0
 PlaceList = List Place
 
@@ -44,6 +45,6 @@ abbrev pub lists : List Place → Limit → Bool
 lists [] l = false
 lists (p ∷ ps) l = eqb (number (p .limit)) (number l) || lists ps l
 
--- "the sum of the limits listed"
+-- "the sum of the limits listed", each counted once
 abbrev pub limitsListed : List Place → ℕ
 limitsListed ps = sumPicked (lists ps)

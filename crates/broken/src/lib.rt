@@ -1,5 +1,5 @@
-// Where a floor is broken: every place at which a limit's test fails, in the order limit, direction, j, i, four numbers each.
-// One walk serves to count the places and to write them. The test at a place is one that the verdict or the question whether a floor is clear uses too.
+// Where a floor is broken: every place that breaks a limit, in the order limit, direction, j, i, four numbers each.
+// One walk serves to count the places and to write them.
 ghost use mathlib.Core.Path.{_≡_};
 ghost use Prim.Native.Nat.{_+_, _≤_};
 ghost use Rattle.floor.specs.Asked.{Accepted};
@@ -14,12 +14,13 @@ use answers::success;
 use extremes::slender_at;
 use extremes::unequal_at;
 use limits::Limit;
+use limits::few_along;
 use limits::heavy;
 use limits::limit_at;
 use limits::number;
 use lines::line::alphas;
 use lines::line::spans;
-use lines::panel::thick_enough;
+use lines::panel::panel_thickness;
 use lines::slab::Slab;
 use lines::slab::slab_of;
 use places::astray_along;
@@ -29,9 +30,10 @@ use plan::ways::Way;
 use plan::ways::pick;
 use tables::write::write_at;
 
-// How many numbers a place has, and how many suffice for the places of any floor.
+// How many numbers a place has.
 const PLACE: usize = 4;
 
+// So many numbers have room for the places of any floor.
 const SUFFICES: usize = 3172;
 
 // A limit without a direction has its places under x.
@@ -81,13 +83,14 @@ fn broken_at(
     ensures { λ r. ⌜ r ≡ brokenAt (now (f .entry)) limit d i j ⌝ }
 {
     match limit {
-        Limit::Few => pick(d, slab.bays.x, slab.bays.y) < 3,
+        Limit::Few => few_along(pick(d, slab.bays.x, slab.bays.y)),
         Limit::Slender => slender_at(f, slab, spans, i, j),
         Limit::Uneven => unlike_next(f, slab, spans, d, pick(d, i, j)),
         Limit::Astray => astray_along(f, slab, spans, d, i, j),
         Limit::Heavy => heavy(slab.dead, slab.live),
         Limit::Unbalanced => unequal_at(f, slab, spans, alphas, i, j),
-        Limit::Thin => !thick_enough(f, slab, spans, alphas, i, j),
+        // Not by `thick_enough`, which the compiler puts into the verdict's walk as long as it has no other caller.
+        Limit::Thin => (slab.t as u64) < panel_thickness(f, slab, spans, alphas, i, j),
     }
 }
 
@@ -212,7 +215,7 @@ fn list_all(
     n
 }
 
-// Is there room for all of them in a slice of this length? They are counted where one may be too short.
+// Is there room for all of them in a slice of this length? They are counted only where it may be too short.
 fn has_room(
     f: &[u8],
     slab: Slab,

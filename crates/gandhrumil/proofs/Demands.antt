@@ -184,7 +184,7 @@ demand-two =
       change = change-verdict;
       clear = open-clear;
       places = λ o z h. (broken-one (listed-broken h) (open-told o z .verdict), none-listed h);
-      suffices = λ f n h. given _ f .0 (sym (never-short f n h));
+      suffices = λ {f = f} p h. given _ f .0 (never-short f p h);
       steel = λ q h. let s = steel-answer q in
           ((λ e. s .found .0 e .1, λ some. s .found .1 (h, some)), (λ e. s .none .0 e .1, λ no. s .none .1 (h, no)), s .least);
     }

@@ -1,6 +1,6 @@
 -- The three demands on the product, in their own words, as statements about what the exported functions promise. proofs/Demands shows them.
 -- `Opened` and `Changed` are the promises of opening and of a change (crate moments), `panelOf` that of the panel query (crate verdict), `clearOf` that of
--- the question whether a floor is clear (crate clear), `Placed` that of the list of broken places (crate broken), `steelOf` that of the steel query (crate
+-- the question whether a floor is clear (crate clear), `Placed` that of the list of places where a limit is broken (crate broken), `steelOf` that of the steel query (crate
 -- steel); none of them asks anything of the caller. What these say is said here by statements: `GivenBy` a chain of checks in the order tried, `Broken`,
 -- `Clear`, `Places`, `PanelEnough`, `Fits`, `rightNumber`, the number that the rules give, and `GoverningAt`, the five of a support.
 -- Assumes nothing.
@@ -17,7 +17,7 @@ use Rattle.limits.specs.Meaning.{Broken, Clear}
 use Rattle.verdict.specs.Answers.{panelOf, PanelAnswer}
 use Rattle.clear.specs.Answers.{clearOf, ClearAnswer}
 use Rattle.broken.specs.Meaning.{PlaceList, Places, limitsListed}
-use Rattle.broken.specs.Answers.{placesRefusal, placesMost, Placed, PlacesAnswer}
+use Rattle.broken.specs.Answers.{placesMost, Placed, PlacesAnswer}
 use Rattle.tables.specs.Width.{recordWidth}
 use Rattle.tables.specs.Places.{Place, Inside, recordCount}
 use Rattle.plan.specs.Plan.{baysOf}
@@ -78,8 +78,8 @@ pub record DemandTwo : Type 0 where
   -- beyond 02: "the sum of the limits listed is the verdict; none is listed exactly when the floor is clear"
   pub places : {f : List ℕ} {l l′ : Lent} {a : Answer} {ps : PlaceList} → Opened f l a l′ → a .refusal ≡ 0 → Places f ps
       → (limitsListed ps ≡ a .value) × ((length ps ≡ 0) ↔ Clear f)
-  -- and with so many numbers it is the floor's own number that is given: 25 never arises
-  pub suffices : (f : List ℕ) (n : ℕ) → placesMost ≤ n → Given (placesRefusal f n) f
+  -- in a slice of `placesMost` numbers or more the number is the floor's own, 0 to 7: never 25
+  pub suffices : {f t t′ : List ℕ} {a : Answer} → Placed f t a t′ → placesMost ≤ length t → Given (a .refusal) f
   pub steel : (q : Query) → InRange q
       → ((steelOf q .refusal ≡ 0) ↔ ((As : ℕ) × Fits q As))
       × ((steelOf q .refusal ≡ 12) ↔ ((As : ℕ) → ¬ Fits q As))

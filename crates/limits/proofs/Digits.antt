@@ -13,8 +13,8 @@ use native.Mathlib.Omega.{arith}
 use Rattle.numbers.specs.Tests.{Says}
 use Rattle.limits.specs.declared.Limit.{Limit}
 use Rattle.limits.specs.declared.Limit.the-variants.{Few, Slender, Uneven, Astray, Heavy, Unbalanced, Thin}
-use Rattle.limits.specs.Limits.{bit, sumOf}
-use Rattle.limits.specs.Places.{number, sumPicked}
+use Rattle.limits.specs.Limits.{bit, sumOf, sumPicked}
+use Rattle.limits.specs.Meaning.{number}
 
 scaled : (b : Bool) (n : ℕ) → bit b n ≡ n * bit b 1
 scaled true n = omega arith

@@ -12,9 +12,8 @@ use Rattle.numbers.proofs.Tests.{says-eq, says-as}
 use Rattle.floor.specs.Refusal.{refusal}
 use Rattle.limits.specs.declared.Limit.{Limit}
 use Rattle.limits.specs.declared.Limit.the-variants.{Few, Slender, Uneven, Astray, Heavy, Unbalanced, Thin}
-use Rattle.limits.specs.Limits.{verdict, isClear}
-use Rattle.limits.specs.Places.{number, isBroken}
-use Rattle.limits.specs.Meaning.{Broken, Clear}
+use Rattle.limits.specs.Limits.{isBroken, verdict, isClear}
+use Rattle.limits.specs.Meaning.{number, Broken, Clear}
 use Rattle.limits.proofs.Digits.{digits, sum-most, says-digit, same-digit, same-digits}
 use Rattle.limits.proofs.Places.{says-limit}
 

@@ -24,8 +24,8 @@ use Rattle.lines.proofs.Meaning.{says-everywhere}
 use Rattle.lines.proofs.Enough.{says-thinner}
 use Rattle.limits.specs.declared.Limit.{Limit}
 use Rattle.limits.specs.declared.Limit.the-variants.{Few, Slender, Uneven, Astray, Heavy, Unbalanced, Thin}
-use Rattle.limits.specs.Limits.{somePair, somePanel, few, slenderPanel, uneven, adjoining, astrayAlong, astrayColumn, astray, heavy, unequalPanel, unbalancedPanel, unbalanced, thinPanel}
-use Rattle.limits.specs.Places.{isBroken, extent, brokenAt, somewhereAlong, somewhere}
+use Rattle.limits.specs.Limits.{somePair, somePanel, few, slenderPanel, uneven, adjoining, astrayAlong, astrayColumn, astray, heavy, unequalPanel, unbalancedPanel, unbalanced, thinPanel, isBroken}
+use Rattle.limits.specs.Places.{extent, brokenAt}
 use Rattle.limits.specs.Meaning.{PlaceOf, Adjoins, Exceeded, Breaks, BrokenAt, SomePlace}
 
 -- a test along x or along y says it of a direction
@@ -51,6 +51,13 @@ says-pair nx ny {p} s =
     (says-some ny (λ j. says-some nx (λ i. says-itself (p i j))))
 
 -- ---- the places
+
+-- at some place along d, and at some place
+abbrev somewhereAlong : List ℕ → Limit → Way → Bool
+somewhereAlong f l d = let e = extent l d (baysOf f) in somePair (e .x) (e .y) (brokenAt f l d)
+
+abbrev somewhere : List ℕ → Limit → Bool
+somewhere f l = somewhereAlong f l X || somewhereAlong f l Y
 
 module _ (f : List ℕ) where
   pub place-in : (l : Limit) (d : Way) {i j : ℕ} → PlaceOf f l d i j → (i < extent l d (baysOf f) .x) × (j < extent l d (baysOf f) .y)

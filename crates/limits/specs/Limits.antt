@@ -11,6 +11,8 @@ use Rattle.plan.specs.Ways.{pick}
 use Rattle.plan.specs.Plan.{bays, thickness, dead, live, span, offset}
 use Rattle.layouts.specs.Layouts.{layoutOf}
 use Rattle.lines.specs.Lines.{isEverywhere, pairAlpha, panelThickness}
+use Rattle.limits.specs.declared.Limit.{Limit}
+use Rattle.limits.specs.declared.Limit.the-variants.{Few, Slender, Uneven, Astray, Heavy, Unbalanced, Thin}
 
 -- some i below nx and j below ny
 unfoldable pub somePair : ℕ → ℕ → (ℕ → ℕ → Bool) → Bool
@@ -21,8 +23,11 @@ abbrev pub somePanel : List ℕ → (ℕ → ℕ → Bool) → Bool
 somePanel f p = somePair (bays f X) (bays f Y) p
 
 -- 1: "nx or ny below 3"
+abbrev pub tooFew : ℕ → Bool
+tooFew n = ltb n 3
+
 unfoldable pub few : List ℕ → Bool
-few f = ltb (bays f X) 3 || ltb (bays f Y) 3
+few f = tooFew (bays f X) || tooFew (bays f Y)
 
 -- 2: "in a panel, longer span > 2·shorter"
 abbrev pub slender : ℕ → ℕ → Bool
@@ -99,10 +104,21 @@ bit broken n = cond broken n 0
 unfoldable pub sumOf : Bool → Bool → Bool → Bool → Bool → Bool → Bool → ℕ
 sumOf a b c d e g h = bit a 1 + bit b 2 + bit c 4 + bit d 8 + bit e 16 + bit g 32 + bit h 64
 
+-- of the numbers of the limits that t picks
+abbrev pub sumPicked : (Limit → Bool) → ℕ
+sumPicked t = sumOf (t Few) (t Slender) (t Uneven) (t Astray) (t Heavy) (t Unbalanced) (t Thin)
+
+abbrev pub isBroken : List ℕ → Limit → Bool
+isBroken f Few = few f
+isBroken f Slender = somePanel f (slenderPanel f)
+isBroken f Uneven = uneven f X || uneven f Y
+isBroken f Astray = astray f
+isBroken f Heavy = heavy f
+isBroken f Unbalanced = unbalanced f
+isBroken f Thin = somePanel f (thinPanel f)
+
 unfoldable pub verdict : List ℕ → ℕ
-verdict f =
-    sumOf (few f) (somePanel f (slenderPanel f)) (uneven f X || uneven f Y) (astray f) (heavy f) (unbalanced f)
-    (somePanel f (thinPanel f))
+verdict f = sumPicked (isBroken f)
 
 -- moments stand only while no limit is broken and the slab is thick enough
 abbrev pub isClear : List ℕ → Bool

@@ -1,5 +1,5 @@
 -- "The verdict", sentence by sentence: what a place of each limit is, what breaks the limit there, and the number that says which limits are broken.
--- A limit is broken where there is a place that breaks it: verdict and list of places speak of the same ones.
+-- A limit is broken where there is a place that breaks it: verdict and list of places speak of the same places.
 -- That the tests of `Limits` say these statements, and that `verdict` is that number and the only one, is proved in proofs/Places and proofs/Meaning.
 -- Assumes nothing.
 use Prim.Native.Nat.{ℕ, _+_, _*_, _-_, _/_, _%_, _≤_, _<_, min, max}
@@ -15,11 +15,20 @@ use Rattle.lines.specs.Lines.{pairAlpha}
 use Rattle.lines.specs.Meaning.{PanelEnough}
 use Rattle.limits.specs.declared.Limit.{Limit}
 use Rattle.limits.specs.declared.Limit.the-variants.{Few, Slender, Uneven, Astray, Heavy, Unbalanced, Thin}
-use Rattle.limits.specs.Places.{number}
+
+-- the number that a limit adds to the verdict
+abbrev pub number : Limit → ℕ
+number Few = 1
+number Slender = 2
+number Uneven = 4
+number Astray = 8
+number Heavy = 16
+number Unbalanced = 32
+number Thin = 64
 
 -- ---- what a place is: a direction d, i and j
 
--- a limit without a direction has its places under x
+-- a limit without a direction has its places under x, which is written 0
 abbrev pub Undirected : Way → Type 0
 Undirected X = Unit
 Undirected Y = ⊥
@@ -28,11 +37,11 @@ Undirected Y = ⊥
 abbrev pub PanelAt : List ℕ → Way → ℕ → ℕ → Type 0
 PanelAt f d i j = Undirected d × (i < bays f X) × (j < bays f Y)
 
--- where there is one place in all, i and j are 0
+-- where the place is a direction or the floor, i and j are 0
 abbrev pub Single : ℕ → ℕ → Type 0
 Single i j = (i ≡ 0) × (j ≡ 0)
 
--- 1 a direction; 2, 32 and 64 a panel; 4 the lower of two neighbouring spans in its direction, the other number 0; 8 the column on y line i and x line j,
+-- 1 a direction; 2, 32 and 64 a panel; 4 the first of two neighbouring spans in its direction, the other number 0; 8 the column on y line i and x line j,
 -- with the direction in which it is off; 16 the floor
 abbrev pub PlaceOf : List ℕ → Limit → Way → ℕ → ℕ → Type 0
 PlaceOf f Few d i j = Single i j

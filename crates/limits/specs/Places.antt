@@ -1,47 +1,22 @@
--- The places of each limit, by direction, i and j, and the test at each. The verdict asks whether some place fails, the list of places where.
+-- The places of each limit, by direction, i and j, and the test at each.
 -- That these are the places of `Meaning`, and that the verdict's tests find one exactly where there is one, is proved in proofs/Places.
 -- Assumes nothing.
 use Prim.Native.Nat.{ℕ, _+_, _-_}
-use mathlib.Core.Bool.{Bool, _||_}
+use mathlib.Core.Bool.{Bool}
 use mathlib.Core.List.{List, [], _∷_}
-use lib.Dec.{ltb}
 use lib.ListN.{getD}
 use Rattle.plan.specs.declared.ways.Way.{Way}
 use Rattle.plan.specs.declared.ways.Way.the-variants.{X, Y}
 use Rattle.plan.specs.declared.read.Bays.{Bays}
 use Rattle.plan.specs.Ways.{pick}
-use Rattle.plan.specs.Plan.{bays, baysOf}
+use Rattle.plan.specs.Plan.{bays}
 use Rattle.limits.specs.declared.Limit.{Limit}
 use Rattle.limits.specs.declared.Limit.the-variants.{Few, Slender, Uneven, Astray, Heavy, Unbalanced, Thin}
-use Rattle.limits.specs.Limits.{somePair, somePanel, few, slenderPanel, unlikeNext, uneven, astrayAlong, astray, heavy, unbalancedPanel, unbalanced, thinPanel, sumOf}
+use Rattle.limits.specs.Limits.{tooFew, slenderPanel, unlikeNext, astrayAlong, heavy, unbalancedPanel, thinPanel}
 
--- the number that a limit adds to the verdict
-abbrev pub number : Limit → ℕ
-number Few = 1
-number Slender = 2
-number Uneven = 4
-number Astray = 8
-number Heavy = 16
-number Unbalanced = 32
-number Thin = 64
-
--- the limits by their numbers, rising; the last is Thin
+-- the limits by their numbers, rising; Thin from 6 on
 abbrev pub limitAt : ℕ → Limit
 limitAt k = getD (Few ∷ Slender ∷ Uneven ∷ Astray ∷ Heavy ∷ Unbalanced ∷ []) k Thin
-
--- the sum of the numbers of the limits that t picks
-abbrev pub sumPicked : (Limit → Bool) → ℕ
-sumPicked t = sumOf (t Few) (t Slender) (t Uneven) (t Astray) (t Heavy) (t Unbalanced) (t Thin)
-
--- the verdict's own test of a limit; the verdict is `sumPicked (isBroken f)`
-abbrev pub isBroken : List ℕ → Limit → Bool
-isBroken f Few = few f
-isBroken f Slender = somePanel f (slenderPanel f)
-isBroken f Uneven = uneven f X || uneven f Y
-isBroken f Astray = astray f
-isBroken f Heavy = heavy f
-isBroken f Unbalanced = unbalanced f
-isBroken f Thin = somePanel f (thinPanel f)
 
 -- so many i, and so many j
 abbrev sized : ℕ → ℕ → Bays
@@ -64,17 +39,10 @@ extent Thin d b = undirected d b
 
 -- the test at a place
 abbrev pub brokenAt : List ℕ → Limit → Way → ℕ → ℕ → Bool
-brokenAt f Few d i j = ltb (bays f d) 3
+brokenAt f Few d i j = tooFew (bays f d)
 brokenAt f Slender d i j = slenderPanel f i j
 brokenAt f Uneven d i j = unlikeNext f d (pick d i j)
 brokenAt f Astray d i j = astrayAlong f d i j
 brokenAt f Heavy d i j = heavy f
 brokenAt f Unbalanced d i j = unbalancedPanel f i j
 brokenAt f Thin d i j = thinPanel f i j
-
--- at some place along d, and at some place
-abbrev pub somewhereAlong : List ℕ → Limit → Way → Bool
-somewhereAlong f l d = let e = extent l d (baysOf f) in somePair (e .x) (e .y) (brokenAt f l d)
-
-abbrev pub somewhere : List ℕ → Limit → Bool
-somewhere f l = somewhereAlong f l X || somewhereAlong f l Y

@@ -2,10 +2,10 @@
 ghost use mathlib.Core.Path.{_≡_};
 ghost use mathlib.Core.Bool.{_||_};
 ghost use Prim.Native.Nat.{_≤_, _<_};
-ghost use lib.Dec.{ltb};
 ghost use Rattle.limits.specs.Asked.{Neighbours};
-ghost use Rattle.limits.specs.Limits.{unlike, exceeds, overloaded, bit, sumOf};
-ghost use Rattle.limits.specs.Places.{number, limitAt};
+ghost use Rattle.limits.specs.Limits.{tooFew, unlike, exceeds, overloaded, bit, sumOf};
+ghost use Rattle.limits.specs.Places.{limitAt};
+ghost use Rattle.limits.specs.Meaning.{number};
 use numbers::either;
 use numbers::larger;
 use numbers::smaller;
@@ -36,7 +36,7 @@ pub fn number(limit: Limit) -> u32
     }
 }
 
-// The k-th, from 0.
+// The k-th, from 0; the last from 6 on.
 pub fn limit_at(k: u32) -> Limit
     ensures { λ r. ⌜ r ≡ limitAt k ⌝ }
 {
@@ -51,11 +51,18 @@ pub fn limit_at(k: u32) -> Limit
     }
 }
 
+// 1, of the bays along one direction.
+pub fn few_along(n: u32) -> bool
+    ensures { λ r. ⌜ r ≡ tooFew n ⌝ }
+{
+    n < 3
+}
+
 // 1
 pub fn few(nx: u32, ny: u32) -> bool
-    ensures { λ r. ⌜ r ≡ (ltb nx 3 || ltb ny 3) ⌝ }
+    ensures { λ r. ⌜ r ≡ (tooFew nx || tooFew ny) ⌝ }
 {
-    either(nx < 3, ny < 3)
+    either(few_along(nx), few_along(ny))
 }
 
 // 4

@@ -142,6 +142,7 @@ impl Slab {
     }
 
     /// For the panel where two bays cross.
+    #[inline(always)]
     pub fn thin(&self, column: &Bay, row: &Bay) -> bool {
         let s = column.beside + row.beside;
         let (mut t, mut n) = (self.t, self.n);

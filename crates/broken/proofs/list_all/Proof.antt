@@ -29,7 +29,7 @@ list-all-spec =
     (λ c κs. search needs)
     (λ c κs. search needs)
     (λ c. search needs)
-    (λ c κs. record { ready = c .before .before .before .before .before .before .before .before .pre .ready; few = omega (arith, c .before .before .before .before .before .loop .inv, c .before .before .before .before .loop-test .taken) })
+    (λ c κs. record { ready = c .before .before .before .before .before .before .before .before .pre .ready; most = omega (arith, c .before .before .before .before .before .loop .inv, c .before .before .before .before .loop-test .taken) })
     (λ c. search needs)
     (λ c. search needs)
     (λ c. let l = c .before .before .before .before .loop in

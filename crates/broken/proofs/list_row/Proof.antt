@@ -29,8 +29,8 @@ list-row-spec =
     (λ c κs. bays-some (c .before .before .pre .ready .surveyed))
     (λ c. (zero-le, none _ _ _, omega arith))
     (λ c κs. at-place (c .before .before .before .before .before .pre) (c .before .before .extent .ensures) (search needs))
-    (λ c κs. record { few = omega (arith, c .before .before .before .before .loop .inv, extent-most (c .before .before .before .before .before .before .before .before .pre .ready .surveyed) (c .before .before .before .before .before .before .before .before .args .limit) (c .before .before .before .before .before .before .before .before .args .d) (c .before .before .before .before .before .extent .ensures), c .before .before .before .before .before .before .before .before .pre .few) })
-    (λ c. omega (arith, c .before .before .before .before .before .before .before .loop .inv, extent-most (c .before .before .before .before .before .before .before .before .before .before .before .pre .ready .surveyed) (c .before .before .before .before .before .before .before .before .before .before .before .args .limit) (c .before .before .before .before .before .before .before .before .before .before .before .args .d) (c .before .before .before .before .before .before .before .before .extent .ensures), c .before .before .before .before .before .before .before .before .before .before .before .pre .few))
+    (λ c κs. record { most = omega (arith, c .before .before .before .before .loop .inv, extent-most (c .before .before .before .before .before .before .before .before .pre .ready .surveyed) (c .before .before .before .before .before .before .before .before .args .limit) (c .before .before .before .before .before .before .before .before .args .d) (c .before .before .before .before .before .extent .ensures), c .before .before .before .before .before .before .before .before .pre .most) })
+    (λ c. omega (arith, c .before .before .before .before .before .before .before .loop .inv, extent-most (c .before .before .before .before .before .before .before .before .before .before .before .pre .ready .surveyed) (c .before .before .before .before .before .before .before .before .before .before .before .args .limit) (c .before .before .before .before .before .before .before .before .before .before .before .args .d) (c .before .before .before .before .before .before .before .before .extent .ensures), c .before .before .before .before .before .before .before .before .before .before .before .pre .most))
     (λ c. omega (arith, c .before .before .before .loop .inv, extent-most (c .before .before .before .before .before .before .before .pre .ready .surveyed) (c .before .before .before .before .before .before .before .args .limit) (c .before .before .before .before .before .before .before .args .d) (c .before .before .before .before .extent .ensures)))
     (λ c. search needs)
     (λ c. let l = c .before .before .before .loop in
