@@ -23,7 +23,7 @@
  * than 7 KiB on aarch64, and in version 1 on x86-64 too, under an emulator; the rest is margin. */
 #define GANDHRUMIL_STACK 16384
 
-/* Room for the places of any floor: there are no more than 793, of four numbers each. */
+/* So many numbers have room for the places of any floor: there are no more than 793, of four numbers each. With them 25 is never given. */
 #define GANDHRUMIL_PLACES_LEN 3172
 
 #ifdef __cplusplus
@@ -83,17 +83,17 @@ gandhrumil_answer gandhrumil_panel(const uint8_t *floor, size_t floor_len, uint6
  * lent, and nothing is written. */
 gandhrumil_answer gandhrumil_clear(const uint8_t *floor, size_t floor_len);
 
-/* Where the floor breaks the limits of the method. value is the number of places, 0 on a clear floor, and each is written as four numbers:
- * limit, direction, i, j. The direction is 0 for x, 1 for y, and 0 where the limit has none. By the limit, as gandhrumil_open numbers them,
- * a place is
+/* Where the floor breaks its limits. With refusal 0, value is the number of places, and 0 exactly on a clear floor; a refused call has value 0
+ * too, so look at refusal first. Each place is written as four numbers: limit, direction, i, j. The direction is 0 for x, 1 for y, and 0
+ * where the limit has none. What a place is depends on the limit, numbered as for gandhrumil_open:
  *           1  a direction with fewer than three bays; i and j are 0
  *   2, 32, 64  the panel of x bay i and y bay j
  *           4  two neighbouring spans: along x those of x bays i and i + 1, j is 0; along y those of y bays j and j + 1, i is 0
- *           8  the column on y line i and x line j, in the direction in which it is off
+ *           8  the column on y line i and x line j, once for each direction along which it is off by too much
  *          16  the floor; i and j are 0
  * A place is listed exactly where its limit is broken there, and once. The order is limit, then direction, then j, then i, each rising. The
- * limits that are listed, each counted once, add up to the verdict. Tries 1 to 7, then 25; 0 where refused. Numbers past the places are left
- * alone; a refusal writes nothing. */
+ * limits that are listed, each counted once, add up to the verdict. Tries 1 to 7, then 25. Numbers past the places are left alone; a refusal
+ * writes nothing. */
 gandhrumil_answer gandhrumil_places(const uint8_t *floor, size_t floor_len, uint32_t *places, size_t places_len);
 
 /* The least whole area of steel in mm2 for the moment m, 0 to 2,000,000,000 N.cm, on a width b, 1 to 12,000 mm, of a slab of thickness t, 90 to

@@ -6,6 +6,8 @@ use crate::run::slab_on;
 use crate::unfold::{self, Place};
 use cases::floors::Described;
 use floor::Floor;
+use reference::places::broken_places;
+use reference::refusals::{refusal, SUCCESS};
 
 /// Two bays each way where every limit is broken at every place. 3060 is more than twice 1520, the longest y span; 4600 − 3060 is
 /// 1540, more than a third of 4600, and 520 more than a third of 1520; every column is more than a tenth of 4600 off along x and
@@ -156,11 +158,15 @@ fn one_bay() {
     expect_broken(&[], &Floor::clear(1, 1).bytes(), &[(1, right)]);
 }
 
+/// By the independent implementation; none of a floor that is refused.
 fn listed(file: &[u8]) -> Vec<Place> {
-    let mut places = [0; gandhrumil::PLACES_LEN];
-    let answer = gandhrumil::places(file, &mut places);
-    let written = places[..4 * answer.value as usize].chunks(4);
-    written.map(|place| place.try_into().unwrap()).collect()
+    match refusal(file) {
+        SUCCESS => broken_places(file)
+            .into_iter()
+            .map(|place| place.numbers())
+            .collect(),
+        _ => Vec::new(),
+    }
 }
 
 fn said(options: &[&str], file: &[u8]) -> Vec<Vec<Place>> {
@@ -176,7 +182,7 @@ fn said(options: &[&str], file: &[u8]) -> Vec<Vec<Place>> {
         .collect()
 }
 
-/// With `--all` a line for each, in the library's order; folded or not, each place once.
+/// With `--all` a line for each, in their order; folded or not, each place once.
 #[test]
 fn every_described_floor() {
     let mut tried = 0;
