@@ -17,8 +17,11 @@ list-spec =
     (λ c κs. search needs)
     (λ c κs. search needs)
     (λ c κs. search needs)
-    (λ c. let r = too-short _ _ (c .before .before .before .before .before .before .before .before .before .before .before .before .before .before .pre .accepted) (c .before .before .has-room .ensures) (c .before .if1 .taken) in record { answer = c .refused-query .ensures ∙ r .answer; slice = r .slice })
+    (λ c. let r = too-short _ _ (c .before .before .before .before .before .before .before .before .before .before .before .before .before .before .pre .accepted) (c .before .before .has-room .ensures) (c .before .if1 .taken) in
+    record { answer = c .refused-query .ensures ∙ r .answer; slice = r .slice })
     (λ c κs. search needs)
     (λ c κs. search needs)
     (λ c. search needs)
-    (λ c. let r = written _ _ (c .before .before .before .before .before .before .before .before .before .before .before .before .before .before .before .before .before .before .before .before .pre .accepted) (c .before .before .before .before .before .before .before .before .has-room .ensures) (c .before .before .before .before .before .before .before .if1 .left) (c .before .before .before .list-all .ensures .0) in record { answer = c .success .ensures ∙ r .answer; slice = r .slice }))
+    (λ c. let b = c .before .before .before .before .before .before .before .before in
+    let r = written _ _ (b .before .before .before .before .before .before .before .before .before .before .before .before .pre .accepted) (b .has-room .ensures) (c .before .before .before .before .before .before .before .if1 .left) (c .before .before .before .list-all .ensures .0) in
+    record { answer = c .success .ensures ∙ r .answer; slice = r .slice }))

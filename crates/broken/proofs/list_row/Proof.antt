@@ -29,9 +29,12 @@ list-row-spec =
     (λ c κs. bays-some (c .before .before .pre .ready .surveyed))
     (λ c. (zero-le, none _ _ _, omega arith))
     (λ c κs. at-place (c .before .before .before .before .before .pre) (c .before .before .extent .ensures) (search needs))
-    (λ c κs. record { most = omega (arith, c .before .before .before .before .loop .inv, extent-most (c .before .before .before .before .before .before .before .before .pre .ready .surveyed) (c .before .before .before .before .before .before .before .before .args .limit) (c .before .before .before .before .before .before .before .before .args .d) (c .before .before .before .before .before .extent .ensures), c .before .before .before .before .before .before .before .before .pre .most) })
-    (λ c. omega (arith, c .before .before .before .before .before .before .before .loop .inv, extent-most (c .before .before .before .before .before .before .before .before .before .before .before .pre .ready .surveyed) (c .before .before .before .before .before .before .before .before .before .before .before .args .limit) (c .before .before .before .before .before .before .before .before .before .before .before .args .d) (c .before .before .before .before .before .before .before .before .extent .ensures), c .before .before .before .before .before .before .before .before .before .before .before .pre .most))
-    (λ c. omega (arith, c .before .before .before .loop .inv, extent-most (c .before .before .before .before .before .before .before .pre .ready .surveyed) (c .before .before .before .before .before .before .before .args .limit) (c .before .before .before .before .before .before .before .args .d) (c .before .before .before .before .extent .ensures)))
+    (λ c κs. let b = c .before .before .before .before .before .before .before .before in
+    record { most = omega (arith, c .before .before .before .before .loop .inv, extent-most (b .pre .ready .surveyed) (b .args .limit) (b .args .d) (c .before .before .before .before .before .extent .ensures), b .pre .most) })
+    (λ c. let b = c .before .before .before .before .before .before .before .before .before .before .before in
+    omega (arith, c .before .before .before .before .before .before .before .loop .inv, extent-most (b .pre .ready .surveyed) (b .args .limit) (b .args .d) (c .before .before .before .before .before .before .before .before .extent .ensures), b .pre .most))
+    (λ c. let b = c .before .before .before .before .before .before .before in
+    omega (arith, c .before .before .before .loop .inv, extent-most (b .pre .ready .surveyed) (b .args .limit) (b .args .d) (c .before .before .before .before .extent .ensures)))
     (λ c. search needs)
     (λ c. let l = c .before .before .before .loop in
     let e = c .before .broken-at .ensures in

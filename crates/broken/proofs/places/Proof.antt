@@ -12,7 +12,8 @@ places-spec =
     (tie.spec
     (λ c κs. search needs)
     (λ c κs. search needs)
-    (λ c. let r = refused-is _ _ (floor-refuses _ _ (c .before .before .refusal .ensures) (c .before .if1 .taken)) (c .before .if1 .taken) in record { answer = c .refused-query .ensures ∙ r .answer; slice = r .slice })
+    (λ c. let r = refused-is _ _ (floor-refuses _ _ (c .before .before .refusal .ensures) (c .before .if1 .taken)) (c .before .if1 .taken) in
+    record { answer = c .refused-query .ensures ∙ r .answer; slice = r .slice })
     (λ c κs. search needs)
     (λ c. search needs)
     (λ c. search needs))
