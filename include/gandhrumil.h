@@ -4,9 +4,10 @@
  * needs memcpy and memset, and nothing else.
  *
  * Every call takes any bytes, any lengths and any numbers, and always returns: nothing has to be looked at first. A length counts
- * what its pointer points to: bytes of a floor or a change, numbers of a table or of governing moments. A pointer may be anything,
- * NULL too, where its length is 0. A table and governing moments whose length is not 0 must be aligned for uint32_t; a floor and a
- * change may start at any address. The buffers of one call must not overlap, and nobody else may write to them during it.
+ * what its pointer points to: bytes of a floor or a change, numbers of a table, of governing moments or of places. A pointer may
+ * be anything, NULL too, where its length is 0. A table, governing moments and places whose length is not 0 must be aligned for
+ * uint32_t; a floor and a change may start at any address. The buffers of one call must not overlap, and nobody else may write to
+ * them during it.
  * Nothing is kept between calls, nothing is allocated, and a call touches no memory but its stack and the buffers lent to it.
  */
 #ifndef GANDHRUMIL_H
@@ -16,11 +17,14 @@
 #include <stdint.h>
 
 /* Rises by 1 with each change of what is declared here and each change of an answer. docs/CHANGES.md says what a caller must do. */
-#define GANDHRUMIL_VERSION 5
+#define GANDHRUMIL_VERSION 6
 
 /* A call uses less than GANDHRUMIL_STACK bytes of stack. Measured on floors of 12 by 12 bays, clear and not, the deepest uses less
- * than 6 KiB on aarch64, and in version 1 on x86-64 too, under an emulator; the rest is margin. */
+ * than 7 KiB on aarch64, and in version 1 on x86-64 too, under an emulator; the rest is margin. */
 #define GANDHRUMIL_STACK 16384
+
+/* So many numbers have room for the places of any floor: there are no more than 793, of four numbers each. With them 25 is never given. */
+#define GANDHRUMIL_PLACES_LEN 3172
 
 #ifdef __cplusplus
 extern "C" {
@@ -40,6 +44,7 @@ extern "C" {
  *   11  a value of a steel query is out of range
  *   12  no steel area fits
  *   13  governing_len is below 5 * ((ny + 1) * (nx + 1) + (nx + 1) * (ny + 1)); tried right after 8
+ *   25  places_len is below 4 times the number of the floor's places
  */
 typedef struct {
     uint32_t refusal;
@@ -77,6 +82,19 @@ gandhrumil_answer gandhrumil_panel(const uint8_t *floor, size_t floor_len, uint6
  * call stops at the first broken limit, and does not say which it is. Tries 1 to 7; a refused floor answers no, with its number. No table is
  * lent, and nothing is written. */
 gandhrumil_answer gandhrumil_clear(const uint8_t *floor, size_t floor_len);
+
+/* Where the floor breaks its limits. With refusal 0, value is the number of places, and 0 exactly on a clear floor; a refused call has value 0
+ * too, so look at refusal first. Each place is written as four numbers: limit, direction, i, j. The direction is 0 for x, 1 for y, and 0
+ * where the limit has none. What a place is depends on the limit, numbered as for gandhrumil_open:
+ *           1  a direction with fewer than three bays; i and j are 0
+ *   2, 32, 64  the panel of x bay i and y bay j
+ *           4  two neighbouring spans: along x those of x bays i and i + 1, j is 0; along y those of y bays j and j + 1, i is 0
+ *           8  the column on y line i and x line j, once for each direction along which it is off by too much
+ *          16  the floor; i and j are 0
+ * A place is listed exactly where its limit is broken there, and once. The order is limit, then direction, then j, then i, each rising. The
+ * limits that are listed, each counted once, add up to the verdict. Tries 1 to 7, then 25. Numbers past the places are left alone; a refusal
+ * writes nothing. */
+gandhrumil_answer gandhrumil_places(const uint8_t *floor, size_t floor_len, uint32_t *places, size_t places_len);
 
 /* The least whole area of steel in mm2 for the moment m, 0 to 2,000,000,000 N.cm, on a width b, 1 to 12,000 mm, of a slab of thickness t, 90 to
  * 500 mm, at the effective depth d, 50 to t - 25 mm, or 0 for t - 26; concrete fc, 20 to 60 MPa, steel fy, 280, 420 or 520 MPa.

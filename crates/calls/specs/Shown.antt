@@ -9,3 +9,6 @@ use Rattle.supports.specs.Governing.{supportWidth}
 pub record Shown (t g : List ℕ) : Type 0 where
   pub table : length t ≤ 320 * recordWidth
   pub governing : length g ≤ 346 * supportWidth
+
+pub record Listable (t : List ℕ) : Type 0 where
+  pub places : length t ≤ 3212

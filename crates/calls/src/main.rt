@@ -10,19 +10,21 @@
 //     4  steel    m, b, t, d, fc, fy: two words each, the low one first
 //     5  show
 //     6  clear
+//     7  places   how many numbers the slice has, then these
 //
 // `show` prints the floor's bytes, then all the numbers of the table and of the governing slice, past their records too, each on a line of its
-// own; the others print refusal and value on a line. The program stops at a batch without calls, which is what the end of the input reads as, at a length that its
-// buffers have no room for, and at a word that is no call.
+// own; the others print refusal and value on a line, and `places` all the numbers of its slice after them. The program stops at a batch without calls,
+// which is what the end of the input reads as, at a length that its buffers have no room for, and at a word that is no call.
 ghost use Prim.Native.Nat.{_*_, _≤_};
 ghost use lib.ListN.{length};
 ghost use Rattle.tables.specs.Width.{recordWidth};
-ghost use Rattle.calls.specs.Shown.{Shown};
+ghost use Rattle.calls.specs.Shown.{Shown, Listable};
 use answers::Answer;
 use gandhrumil::gandhrumil_change;
 use gandhrumil::gandhrumil_clear;
 use gandhrumil::gandhrumil_open;
 use gandhrumil::gandhrumil_panel;
+use gandhrumil::gandhrumil_places;
 use gandhrumil::gandhrumil_steel;
 use libc::STDIN_FILENO;
 use libc::STDOUT_FILENO;
@@ -41,6 +43,9 @@ const LONGEST_TABLE: usize = 320 * WIDTH;
 const LONGEST_GOVERNING: usize = 346 * SUPPORT;
 
 const LONGEST_CHANGE: usize = 64;
+
+// Ten places more than the largest floor has, of four numbers each.
+const LONGEST_PLACES: usize = 803 * 4;
 
 // The next word of the input, 0 past its end.
 fn word() -> u32 {
@@ -101,6 +106,24 @@ fn change(floor: &mut [u8], table: &mut [u32], governing: &mut [u32]) -> bool {
     true
 }
 
+fn read_and_list(floor: &[u8], places: &mut [u32])
+    requires { ⌜ Listable (now places) ⌝ }
+{
+    read_numbers(places);
+    show_answer(gandhrumil_places(floor, places));
+    write_rows(places, 1, places.len());
+}
+
+fn places(floor: &[u8]) -> bool {
+    let mut numbers = [0u32; LONGEST_PLACES];
+    let n = word() as usize;
+    if n > LONGEST_PLACES {
+        return false;
+    }
+    read_and_list(floor, &mut numbers[..n]);
+    true
+}
+
 // Makes the next call, and answers whether there was one.
 fn call(floor: &mut [u8], table: &mut [u32], governing: &mut [u32]) -> bool
     requires { ⌜ Shown (now table) (now governing) ⌝ }
@@ -112,6 +135,7 @@ fn call(floor: &mut [u8], table: &mut [u32], governing: &mut [u32]) -> bool
         4 => show_answer(gandhrumil_steel(long(), long(), long(), long(), long(), long())),
         5 => show(floor, table, governing),
         6 => show_answer(gandhrumil_clear(floor)),
+        7 => return places(floor),
         _ => return false,
     }
     true

@@ -1,6 +1,6 @@
 -- The verdict is 0 exactly where no limit answers that it is broken, in whatever order they are asked.
 --     clear-by-limits           the verdict, by what is asked one after the other
---     first-at, thin-first      the first panel is there; its least thickness, and the slab's
+--     first-at                  the first panel is there
 --     first-tells               what is broken in the first panel is broken
 --     by-floor, by-first, by-lines, by-panels     where the asking ends
 -- Assumes nothing.
@@ -10,7 +10,7 @@ use mathlib.Core.List.{List}
 use mathlib.Core.Logic.{⊎-elim}
 use mathlib.Core.Path.{_≡_, refl, sym, _∙_}
 use native.Mathlib.Omega.{arith}
-use lib.Dec.{ltb, eqb}
+use lib.Dec.{eqb}
 use borrow.Author.Tests.{ne-eqb}
 use Rattle.numbers.specs.Tests.{some}
 use Rattle.numbers.proofs.Tests.{found, says-and, says-or, says-itself}
@@ -20,12 +20,12 @@ use Rattle.layouts.specs.Layouts.{layoutOf}
 use Rattle.floor.specs.Refusal.{refusal}
 use Rattle.floor.proofs.Fair.{fair}
 use Rattle.lines.specs.declared.slab.Slab.{Slab}
-use Rattle.lines.specs.Lines.{isEverywhere, panelThickness}
+use Rattle.lines.specs.Lines.{isEverywhere}
 use Rattle.lines.specs.Slabs.{slabOf}
 use Rattle.lines.specs.Rows.{AllSpans}
 use Rattle.lines.specs.Asked.{PanelAtHand}
 use Rattle.verdict.proofs.Sum.{few-is, heavy-is}
-use Rattle.limits.specs.Limits.{somePair, somePanel, few, slenderPanel, uneven, astray, overloaded, heavy, unequalPanel, unbalanced, thinPanel, sumOf, verdict, isClear}
+use Rattle.limits.specs.Limits.{somePair, somePanel, tooFew, few, slenderPanel, uneven, astray, overloaded, heavy, unequalPanel, unbalanced, thinPanel, sumOf, verdict, isClear}
 use Rattle.clear.specs.Order.{firstPanelBroken, brokenWithoutAlpha, panelsBroken}
 
 -- ---- either of two
@@ -64,7 +64,7 @@ clear-by-limits f =
 
 -- ---- 1 and 16
 
-module _ (f : List ℕ) {slab : Slab} (shared : slab ≡ slabOf f) {a b r : Bool} (ea : a ≡ (ltb (slab .bays .x) 3 || ltb (slab .bays .y) 3))
+module _ (f : List ℕ) {slab : Slab} (shared : slab ≡ slabOf f) {a b r : Bool} (ea : a ≡ (tooFew (slab .bays .x) || tooFew (slab .bays .y)))
     (eb : b ≡ overloaded (slab .dead) (slab .live)) (er : r ≡ (a || b)) where
   floor-is : r ≡ (few f || heavy f)
   floor-is = er ∙ rw (few-is f shared ea, heavy-is f shared eb)
@@ -76,10 +76,6 @@ module _ (f : List ℕ) {slab : Slab} (shared : slab ≡ slabOf f) {a b r : Bool
   by-panels n el nl ep = sym (clear-by-limits f ∙ rw (sym floor-is ∙ n, sym el ∙ nl, ← ep))
 
 -- ---- the first panel
-
-pub thin-first : (f : List ℕ) {slab : Slab} {v : ℕ} → slab ≡ slabOf f → v ≡ panelThickness f 0 0 → ltb (slab .t) v ≡ thinPanel f 0 0
-unfolding thinPanel slabOf
-thin-first f shared e = rw (shared, e)
 
 module _ (f : List ℕ) (e : refusal f ≡ 0) where
   pub first-at : {slab : Slab} {s : List (List ℕ)} → slab ≡ slabOf f → AllSpans f s → PanelAtHand f slab s 0 0

@@ -5,8 +5,7 @@ use Prim.Native.Nat.{ℕ}
 use mathlib.Core.Bool.{Bool, _||_}
 use mathlib.Core.List.{List}
 use Rattle.plan.specs.declared.ways.Way.the-variants.{X, Y}
-use Rattle.limits.specs.Limits.{somePanel, slenderPanel, uneven, astray, unbalanced, thinPanel}
-use Rattle.extremes.specs.Extremes.{unbalancedPanel}
+use Rattle.limits.specs.Limits.{somePanel, slenderPanel, uneven, astray, unbalancedPanel, unbalanced, thinPanel}
 
 -- 2, 32 and 64 in the first panel
 abbrev pub firstPanelBroken : List ℕ → Bool

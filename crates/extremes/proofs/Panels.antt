@@ -34,9 +34,9 @@ use Rattle.lines.specs.Asked.{Surveyed, Ready, PanelAtHand, AtPanel}
 use Rattle.lines.proofs.Slabs.{laid-of, bays-of}
 use Rattle.lines.proofs.Filled.{Filled, beside, pair-in, pair-is}
 use Rattle.lines.proofs.Floors.{alpha-bound}
-use Rattle.limits.specs.Limits.{somePair, somePanel, slenderPanel, unequalPanel, unbalanced}
+use Rattle.limits.specs.Limits.{somePair, somePanel, slenderPanel, unequalPanel, unbalancedPanel, unbalanced}
 use Rattle.extremes.specs.declared.Ends.{Ends}
-use Rattle.extremes.specs.Extremes.{apartSome, endsOf, endsApart, unbalancedPanel, shareAt, shareOf, Shares}
+use Rattle.extremes.specs.Extremes.{apartSome, endsOf, endsApart, shareAt, shareOf, Shares}
 use Rattle.extremes.specs.Asked.{Values, Value, EndsIn, BaySharing, Sharing}
 
 -- the same pairs, with tests that answer the same

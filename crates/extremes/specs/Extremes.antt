@@ -1,7 +1,7 @@
 -- Whether some pair of values of two lists lies far apart: limit 2 asks it of the spans of the two directions, limit 32 of p and q.
 -- Assumes nothing.
 use Prim.Native.Nat.{ℕ, _*_, _<_}
-use mathlib.Core.Bool.{Bool, _||_, _&&_}
+use mathlib.Core.Bool.{Bool, _||_}
 use mathlib.Core.List.{List}
 use mathlib.Core.Path.{_≡_}
 use lib.Dec.{ltb}
@@ -10,10 +10,9 @@ use Rattle.numbers.specs.Extremes.{apart, mostOf, leastOf}
 use Rattle.plan.specs.declared.ways.Way.{Way}
 use Rattle.plan.specs.Ways.{across}
 use Rattle.plan.specs.Plan.{span, lastLine}
-use Rattle.layouts.specs.Layouts.{layoutOf}
-use Rattle.lines.specs.Lines.{isEverywhere, pairAlpha}
+use Rattle.lines.specs.Lines.{pairAlpha}
 use Rattle.lines.specs.Rows.{pairAt}
-use Rattle.limits.specs.Limits.{somePair, unequalPanel}
+use Rattle.limits.specs.Limits.{somePair}
 use Rattle.extremes.specs.declared.Ends.{Ends}
 
 -- of some value among the first n of a and some value among the first m of b, one exceeds k times the other
@@ -27,10 +26,6 @@ endsOf n v = record { least = leastOf n v; most = mostOf n v }
 -- some value between ends x exceeds k times some value between ends y, or the other way round
 abbrev pub endsApart : ℕ → Ends → Ends → Bool
 endsApart k x y = ltb (k * y .least) (x .most) || ltb (k * x .least) (y .most)
-
--- 32 in one panel
-abbrev pub unbalancedPanel : List ℕ → ℕ → ℕ → Bool
-unbalancedPanel f i j = isEverywhere (layoutOf f) && unequalPanel f i j
 
 -- p, or q, of bay k as it is worked out of what is at hand
 abbrev pub shareAt : List ℕ → List ℕ → ℕ → ℕ

@@ -18,6 +18,9 @@ use Rattle.limits.proofs.Meaning.{broken, broken-one, clear-is}
 use Rattle.verdict.proofs.Answers.{panel-answer}
 use Rattle.clear.specs.Answers.{clearOf}
 use Rattle.clear.proofs.Answers.{clear-answer}
+use Rattle.broken.proofs.Meaning.{listed-broken, none-listed}
+use Rattle.broken.proofs.Answers.{places-answer}
+use Rattle.broken.proofs.Most.{never-short}
 use Rattle.plan.specs.Plan.{baysOf}
 use Rattle.tables.specs.Places.{Place}
 use Rattle.supports.specs.Governing.{supportWidth, fiveFrom, supportNumber, supportIn}
@@ -170,6 +173,7 @@ demand-one =
       panel = panel-answer;
       steel = steel-answer;
       clear = clear-answer;
+      places = λ {f = f} {t} p. places-answer f t p;
     }
 
 pub demand-two : DemandTwo
@@ -179,6 +183,8 @@ demand-two =
       opening = open-told;
       change = change-verdict;
       clear = open-clear;
+      places = λ o z h. (broken-one (listed-broken h) (open-told o z .verdict), none-listed h);
+      suffices = λ {f = f} p h. given _ f .0 (never-short f p h);
       steel = λ q h. let s = steel-answer q in
           ((λ e. s .found .0 e .1, λ some. s .found .1 (h, some)), (λ e. s .none .0 e .1, λ no. s .none .1 (h, no)), s .least);
     }

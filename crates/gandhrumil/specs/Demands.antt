@@ -1,8 +1,8 @@
 -- The three demands on the product, in their own words, as statements about what the exported functions promise. proofs/Demands shows them.
 -- `Opened` and `Changed` are the promises of opening and of a change (crate moments), `panelOf` that of the panel query (crate verdict), `clearOf` that of
--- the question whether a floor is clear (crate clear), `steelOf` that of the steel query (crate steel); none of them asks anything of the caller. What
--- these say is said here by statements: `GivenBy` a chain of checks in the order tried, `Broken`, `Clear`, `PanelEnough`, `Fits`, `rightNumber`, the
--- number that the rules give, and `GoverningAt`, the five of a support.
+-- the question whether a floor is clear (crate clear), `Placed` that of the list of places where a limit is broken (crate broken), `steelOf` that of the steel query (crate
+-- steel); none of them asks anything of the caller. What these say is said here by statements: `GivenBy` a chain of checks in the order tried, `Broken`,
+-- `Clear`, `Places`, `PanelEnough`, `Fits`, `rightNumber`, the number that the rules give, and `GoverningAt`, the five of a support.
 -- Assumes nothing.
 use Prim.Native.Nat.{ℕ, _*_, _≤_, _<_}
 use mathlib.Core.List.{List}
@@ -16,6 +16,8 @@ use Rattle.answers.specs.declared.Answer.{Answer}
 use Rattle.limits.specs.Meaning.{Broken, Clear}
 use Rattle.verdict.specs.Answers.{panelOf, PanelAnswer}
 use Rattle.clear.specs.Answers.{clearOf, ClearAnswer}
+use Rattle.broken.specs.Meaning.{PlaceList, Places, limitsListed}
+use Rattle.broken.specs.Answers.{placesMost, Placed, PlacesAnswer}
 use Rattle.tables.specs.Width.{recordWidth}
 use Rattle.tables.specs.Places.{Place, Inside, recordCount}
 use Rattle.plan.specs.Plan.{baysOf}
@@ -45,6 +47,8 @@ pub record DemandOne : Type 0 where
   pub steel : (q : Query) → SteelAnswer q (steelOf q)
   -- 02, Four: "Yes exactly when the full verdict is 0; a refused floor answers no with its number"
   pub clear : (f : List ℕ) → ClearAnswer f (clearOf f)
+  -- beyond 02, where it is broken: "a place is listed exactly where its limit's statement holds there, each once, in that order"
+  pub places : {f t t′ : List ℕ} {a : Answer} → Placed f t a t′ → PlacesAnswer f t a t′
 
 -- What verdict v and the table tell of floor f: which limits are broken; if none is, every number is the one that the rules give, and the three
 -- parts of each section add up; otherwise all numbers are 0. The governing slice agrees with the table, and is 0 where the table is (02, One).
@@ -71,6 +75,11 @@ pub record DemandTwo : Type 0 where
   -- 02, Four: yes exactly where opening, with room for what it writes, gives verdict 0, and the number of opening
   pub clear : {f : List ℕ} {l l′ : Lent} {a : Answer} → Opened f l a l′ → Lodged f l
       → ((clearOf f .value ≡ 1) ↔ ((a .refusal ≡ 0) × (a .value ≡ 0))) × (clearOf f .refusal ≡ a .refusal)
+  -- beyond 02: "the sum of the limits listed is the verdict; none is listed exactly when the floor is clear"
+  pub places : {f : List ℕ} {l l′ : Lent} {a : Answer} {ps : PlaceList} → Opened f l a l′ → a .refusal ≡ 0 → Places f ps
+      → (limitsListed ps ≡ a .value) × ((length ps ≡ 0) ↔ Clear f)
+  -- in a slice of `placesMost` numbers or more the number is the floor's own, 0 to 7: never 25
+  pub suffices : {f t t′ : List ℕ} {a : Answer} → Placed f t a t′ → placesMost ≤ length t → Given (a .refusal) f
   pub steel : (q : Query) → InRange q
       → ((steelOf q .refusal ≡ 0) ↔ ((As : ℕ) × Fits q As))
       × ((steelOf q .refusal ≡ 12) ↔ ((As : ℕ) → ¬ Fits q As))

@@ -1,10 +1,10 @@
 -- Two floors and a change written out, to show that the promises are not vacuous. proofs/ExamplesHold shows what is said of them, by computing.
 -- Assumes nothing.
-use Prim.Native.Nat.{ℕ, zero, suc, _/_, _%_, _<_}
+use Prim.Native.Nat.{ℕ, zero, suc, _/_, _%_, _≤_, _<_}
 use mathlib.Core.List.{List, [], _∷_, _++_}
 use mathlib.Core.Path.{_≡_}
 use lib.Dec.{eqb}
-use lib.ListN.{getD}
+use lib.ListN.{length, getD, drop}
 use Rattle.floor.specs.Refusal.{Given}
 use Rattle.changes.specs.Change.{changed}
 use Rattle.limits.specs.Meaning.{Broken}
@@ -12,6 +12,7 @@ use Rattle.tables.specs.Width.{recordWidth}
 use Rattle.answers.specs.declared.Answer.{Answer}
 use Rattle.answers.specs.Answers.{answer}
 use Rattle.clear.specs.Answers.{yesNo, clearOf}
+use Rattle.broken.specs.Answers.{Placed}
 use Rattle.moments.specs.Lent.{Lent}
 use Rattle.moments.specs.Tables.{Lodged}
 use Rattle.moments.specs.Opening.{Opened}
@@ -59,14 +60,21 @@ oneBay =
     ++ spans 5 0 (4000 ∷ []) ++ spans 6 0 (4000 ∷ []) ++ entries 7 0 (times 2 (by 0 0) []) ++ entries 8 0 (times 2 (by 0 0) [])
     ++ entries 9 0 (times 4 (by 0 0) [])
 
--- the garage of example/garage.txt: five bays by four, beams everywhere, two columns off their lines
-abbrev pub garage : List ℕ
-garage =
+-- the garage of example/garage.txt: five bays by four, beams everywhere, two columns off their lines; with these x spans
+abbrev garageOf : List ℕ → List ℕ
+garageOf x =
     entry 1 0 5 4 200 ++ entry 2 0 30 420 0 ++ entry 3 0 7200 5000 0 ++ entry 4 0 600 500 0
-    ++ spans 5 0 (6600 ∷ 7200 ∷ 7500 ∷ 7200 ∷ 6600 ∷ []) ++ spans 6 0 (6000 ∷ 7000 ∷ 7000 ∷ 6400 ∷ [])
+    ++ spans 5 0 x ++ spans 6 0 (6000 ∷ 7000 ∷ 7000 ∷ 6400 ∷ [])
     ++ entries 7 0 (by 400 700 ∷ times 3 (by 350 650) (by 400 700 ∷ []))
     ++ entries 8 0 (by 400 700 ∷ by 350 600 ∷ by 380 650 ∷ by 380 650 ∷ by 350 600 ∷ by 400 700 ∷ [])
     ++ entries 9 0 (by 0 0 ∷ by 0 0 ∷ by 250 0 ∷ times 6 (by 0 0) (by 150 200 ∷ times 20 (by 0 0) []))
+
+abbrev pub garage : List ℕ
+garage = garageOf (6600 ∷ 7200 ∷ 7500 ∷ 7200 ∷ 6600 ∷ [])
+
+-- with a column line moved: x spans 2 and 3 are unlike, and three panels ask for a thicker slab
+abbrev pub moved : List ℕ
+moved = garageOf (6600 ∷ 7200 ∷ 9900 ∷ 4800 ∷ 6600 ∷ [])
 
 -- and a change to it: less load
 abbrev pub lighter : List ℕ
@@ -98,5 +106,13 @@ pub record Examples : Type 0 where
   -- a change that is taken, clear before and after
   pub taken : {l l′ : Lent} {a : Answer} {f′ : List ℕ} → Changed garage l lighter a f′ l′ → Lodged garage l → a ≡ answer 0 0
   pub after : Example (changed garage lighter) 0
+  -- the floor of one bay has too few along x and along y; in a shorter slice it is refused 25
+  pub one-bay-places : {t t′ : List ℕ} {a : Answer} → Placed oneBay t a t′ → 8 ≤ length t
+      → (a ≡ answer 0 2) × (t′ ≡ 1 ∷ 0 ∷ 0 ∷ 0 ∷ 1 ∷ 1 ∷ 0 ∷ 0 ∷ drop 8 t)
+  pub one-bay-short : {t t′ : List ℕ} {a : Answer} → Placed oneBay t a t′ → length t < 8 → (a ≡ answer 25 0) × (t′ ≡ t)
+  -- the garage is broken nowhere, and the moved one at two spans and three panels
+  pub garage-places : {t t′ : List ℕ} {a : Answer} → Placed garage t a t′ → (a ≡ answer 0 0) × (t′ ≡ t)
+  pub moved-places : {t t′ : List ℕ} {a : Answer} → Placed moved t a t′ → 16 ≤ length t
+      → (a ≡ answer 0 4) × (t′ ≡ 4 ∷ 0 ∷ 2 ∷ 0 ∷ 64 ∷ 0 ∷ 2 ∷ 1 ∷ 64 ∷ 0 ∷ 2 ∷ 2 ∷ 64 ∷ 0 ∷ 2 ∷ 3 ∷ drop 16 t)
   -- no bytes at all: not clear, refused 1
   pub nothing : clearOf [] ≡ answer 1 0

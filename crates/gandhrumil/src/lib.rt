@@ -3,6 +3,7 @@
 ghost use mathlib.Core.Path.{_≡_};
 ghost use Rattle.verdict.specs.Answers.{panelOf};
 ghost use Rattle.clear.specs.Answers.{clearOf};
+ghost use Rattle.broken.specs.Answers.{Placed};
 ghost use Rattle.moments.specs.Lent.{lent};
 ghost use Rattle.moments.specs.Opening.{Opened};
 ghost use Rattle.moments.specs.Changing.{Changed};
@@ -46,6 +47,14 @@ pub extern "C" fn gandhrumil_clear(floor: &[u8]) -> Answer
     ensures { λ r. ⌜ r ≡ clearOf (now (floor .entry)) ⌝ }
 {
     clear::clear(floor)
+}
+
+// Every place where a limit is broken: how many there are, with four numbers for each in the slice.
+#[no_mangle]
+pub extern "C" fn gandhrumil_places(floor: &[u8], places: &mut [u32]) -> Answer
+    ensures { λ r. ⌜ Placed (now (floor .entry)) (now (places .entry)) r (now (places .exit)) ⌝ }
+{
+    broken::places(floor, places)
 }
 
 // The least whole area of steel in mm² for the moment m, in N·cm, on a width b of a slab of thickness t.

@@ -1,3 +1,4 @@
 pub mod Digits
+pub mod Places
 pub mod Meaning
 pub mod Edges

@@ -1,4 +1,5 @@
 pub mod Limits
+pub mod Places
 pub mod Meaning
 pub mod Edges
 pub mod Asked

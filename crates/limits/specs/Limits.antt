@@ -7,9 +7,12 @@ use lib.Dec.{ltb, eqb}
 use Rattle.numbers.specs.Tests.{some}
 use Rattle.plan.specs.declared.ways.Way.{Way}
 use Rattle.plan.specs.declared.ways.Way.the-variants.{X, Y}
+use Rattle.plan.specs.Ways.{pick}
 use Rattle.plan.specs.Plan.{bays, thickness, dead, live, span, offset}
 use Rattle.layouts.specs.Layouts.{layoutOf}
 use Rattle.lines.specs.Lines.{isEverywhere, pairAlpha, panelThickness}
+use Rattle.limits.specs.declared.Limit.{Limit}
+use Rattle.limits.specs.declared.Limit.the-variants.{Few, Slender, Uneven, Astray, Heavy, Unbalanced, Thin}
 
 -- some i below nx and j below ny
 unfoldable pub somePair : ℕ → ℕ → (ℕ → ℕ → Bool) → Bool
@@ -20,8 +23,11 @@ abbrev pub somePanel : List ℕ → (ℕ → ℕ → Bool) → Bool
 somePanel f p = somePair (bays f X) (bays f Y) p
 
 -- 1: "nx or ny below 3"
+abbrev pub tooFew : ℕ → Bool
+tooFew n = ltb n 3
+
 unfoldable pub few : List ℕ → Bool
-few f = ltb (bays f X) 3 || ltb (bays f Y) 3
+few f = tooFew (bays f X) || tooFew (bays f Y)
 
 -- 2: "in a panel, longer span > 2·shorter"
 abbrev pub slender : ℕ → ℕ → Bool
@@ -34,8 +40,12 @@ slenderPanel f i j = slender (span f X i) (span f Y j)
 abbrev pub unlike : ℕ → ℕ → Bool
 unlike a b = ltb (max a b) (3 * (max a b - min a b))
 
+-- span k along d and the next one
+abbrev pub unlikeNext : List ℕ → Way → ℕ → Bool
+unlikeNext f d k = unlike (span f d k) (span f d (k + 1))
+
 unfoldable pub uneven : List ℕ → Way → Bool
-uneven f d = some (bays f d - 1) (λ k. unlike (span f d k) (span f d (k + 1)))
+uneven f d = some (bays f d - 1) (unlikeNext f d)
 
 -- 8: "ten times an offset exceeds a span adjoining that column in its direction"
 abbrev pub exceeds : ℕ → ℕ → Bool
@@ -50,8 +60,11 @@ unfoldable pub adjoining : List ℕ → Way → ℕ → ℕ
 adjoining f d k = lesserAt (bays f d) (span f d) k
 
 -- the column on y line i and x line j is i-th along x and j-th along y
+abbrev pub astrayAlong : List ℕ → Way → ℕ → ℕ → Bool
+astrayAlong f d i j = exceeds (offset f d i j) (adjoining f d (pick d i j))
+
 unfoldable pub astrayColumn : List ℕ → ℕ → ℕ → Bool
-astrayColumn f i j = exceeds (offset f X i j) (adjoining f X i) || exceeds (offset f Y i j) (adjoining f Y j)
+astrayColumn f i j = astrayAlong f X i j || astrayAlong f Y i j
 
 unfoldable pub astray : List ℕ → Bool
 astray f = somePair (bays f X + 1) (bays f Y + 1) (astrayColumn f)
@@ -71,6 +84,9 @@ unfoldable pub unequalPanel : List ℕ → ℕ → ℕ → Bool
 unequalPanel f i j =
     unequal (pairAlpha f X j * (span f Y j * span f Y j)) (pairAlpha f Y i * (span f X i * span f X i))
 
+abbrev pub unbalancedPanel : List ℕ → ℕ → ℕ → Bool
+unbalancedPanel f i j = isEverywhere (layoutOf f) && unequalPanel f i j
+
 unfoldable pub unbalanced : List ℕ → Bool
 unbalanced f = isEverywhere (layoutOf f) && somePanel f (unequalPanel f)
 
@@ -88,10 +104,21 @@ bit broken n = cond broken n 0
 unfoldable pub sumOf : Bool → Bool → Bool → Bool → Bool → Bool → Bool → ℕ
 sumOf a b c d e g h = bit a 1 + bit b 2 + bit c 4 + bit d 8 + bit e 16 + bit g 32 + bit h 64
 
+-- of the numbers of the limits that t picks
+abbrev pub sumPicked : (Limit → Bool) → ℕ
+sumPicked t = sumOf (t Few) (t Slender) (t Uneven) (t Astray) (t Heavy) (t Unbalanced) (t Thin)
+
+abbrev pub isBroken : List ℕ → Limit → Bool
+isBroken f Few = few f
+isBroken f Slender = somePanel f (slenderPanel f)
+isBroken f Uneven = uneven f X || uneven f Y
+isBroken f Astray = astray f
+isBroken f Heavy = heavy f
+isBroken f Unbalanced = unbalanced f
+isBroken f Thin = somePanel f (thinPanel f)
+
 unfoldable pub verdict : List ℕ → ℕ
-verdict f =
-    sumOf (few f) (somePanel f (slenderPanel f)) (uneven f X || uneven f Y) (astray f) (heavy f) (unbalanced f)
-    (somePanel f (thinPanel f))
+verdict f = sumPicked (isBroken f)
 
 -- moments stand only while no limit is broken and the slab is thick enough
 abbrev pub isClear : List ℕ → Bool

@@ -1,19 +1,68 @@
 // The limits on plain numbers, and the sum of what is broken (01, "The verdict").
 ghost use mathlib.Core.Path.{_≡_};
 ghost use mathlib.Core.Bool.{_||_};
-ghost use Prim.Native.Nat.{_≤_};
-ghost use lib.Dec.{ltb};
+ghost use Prim.Native.Nat.{_≤_, _<_};
 ghost use Rattle.limits.specs.Asked.{Neighbours};
-ghost use Rattle.limits.specs.Limits.{unlike, exceeds, overloaded, bit, sumOf};
+ghost use Rattle.limits.specs.Limits.{tooFew, unlike, exceeds, overloaded, bit, sumOf};
+ghost use Rattle.limits.specs.Places.{limitAt};
+ghost use Rattle.limits.specs.Meaning.{number};
 use numbers::either;
 use numbers::larger;
 use numbers::smaller;
 
+// In the order of their numbers.
+pub enum Limit {
+    Few,
+    Slender,
+    Uneven,
+    Astray,
+    Heavy,
+    Unbalanced,
+    Thin,
+}
+
+// What it adds to the verdict.
+pub fn number(limit: Limit) -> u32
+    ensures { λ r. ⌜ (r ≡ number limit) × (0 < r) ⌝ }
+{
+    match limit {
+        Limit::Few => 1,
+        Limit::Slender => 2,
+        Limit::Uneven => 4,
+        Limit::Astray => 8,
+        Limit::Heavy => 16,
+        Limit::Unbalanced => 32,
+        Limit::Thin => 64,
+    }
+}
+
+// The k-th, from 0; the last from 6 on.
+pub fn limit_at(k: u32) -> Limit
+    ensures { λ r. ⌜ r ≡ limitAt k ⌝ }
+{
+    match k {
+        0 => Limit::Few,
+        1 => Limit::Slender,
+        2 => Limit::Uneven,
+        3 => Limit::Astray,
+        4 => Limit::Heavy,
+        5 => Limit::Unbalanced,
+        _ => Limit::Thin,
+    }
+}
+
+// 1, of the bays along one direction.
+pub fn few_along(n: u32) -> bool
+    ensures { λ r. ⌜ r ≡ tooFew n ⌝ }
+{
+    n < 3
+}
+
 // 1
 pub fn few(nx: u32, ny: u32) -> bool
-    ensures { λ r. ⌜ r ≡ (ltb nx 3 || ltb ny 3) ⌝ }
+    ensures { λ r. ⌜ r ≡ (tooFew nx || tooFew ny) ⌝ }
 {
-    either(nx < 3, ny < 3)
+    either(few_along(nx), few_along(ny))
 }
 
 // 4

@@ -5,7 +5,6 @@ use Prim.Native.Nat.{ℕ, _*_, _<_, _≤_}
 use mathlib.Core.Bool.{Bool, false, cond, _&&_, true≢false}
 use mathlib.Core.List.{List}
 use mathlib.Core.Path.{_≡_, refl, sym, ap, _∙_}
-use mathlib.Core.Logic.{inl, inr}
 use native.Mathlib.Omega.{arith}
 use lib.ListN.{length}
 use borrow.Author.Tests.{eq-eqb}
@@ -20,7 +19,7 @@ use Rattle.changes.specs.Change.{changeKind, changeIndex, changed}
 use Rattle.changes.specs.Meaning.{TakenChange}
 use Rattle.changes.proofs.Kept.{bays-kept}
 use Rattle.limits.specs.Limits.{verdict, isClear}
-use Rattle.limits.specs.Meaning.{Few}
+use Rattle.limits.specs.declared.Limit.the-variants.{Few}
 use Rattle.limits.proofs.Meaning.{broken, clear-is}
 use Rattle.spans.specs.Record.{recordOf}
 use Rattle.tables.specs.Width.{recordWidth}
@@ -70,11 +69,7 @@ module _ (f c : List ℕ) (t : TakenChange f c) where
   named-kept kind index k = rw (place-kept k, same-bays (placeOf f k .way))
 
   wide : verdict f ≡ 0 → (d : Way) → 3 ≤ bays f d
-  wide e = by-way (clear-is (broken f (t .held)) .0 e .one)
-    where
-      by-way : ¬ Few f → (d : Way) → 3 ≤ bays f d
-      by-way n X = let h : ¬ (bays f X < 3) = λ q. n (inl q) in omega arith
-      by-way n Y = let h : ¬ (bays f Y < 3) = λ q. n (inr q) in omega arith
+  wide e d = let h : ¬ (bays f d < 3) = λ q. clear-is (broken f (t .held)) .0 e Few (d, 0, 0, ((refl, refl), q)) in omega arith
 
   -- a record that is not named is the same before and after
   same-record : (k : ℕ) → k < recordCount f → verdict f ≡ 0 → namedAt g (changeKind c) (changeIndex c) k ≡ false → recordAt f k ≡ recordAt g k

@@ -8,8 +8,8 @@
 -- Assumes nothing.
 use Prim.Native.Nat.{ℕ, _+_, _-_, _*_, _≤_, _<_, min, max}
 use mathlib.Core.Bool.{Bool, true, false, not, _||_}
-use mathlib.Core.List.{List}
-use mathlib.Core.Path.{_≡_, refl, sym, _∙_}
+use mathlib.Core.List.{List, []}
+use mathlib.Core.Path.{_≡_, refl, sym, ap, _∙_}
 use native.Mathlib.Omega.{arith}
 use lib.Dec.{ltb, leb}
 use lib.ListN.{getD}
@@ -21,6 +21,7 @@ use Rattle.plan.specs.declared.ways.Way.the-variants.{X, Y}
 use Rattle.plan.specs.declared.read.Bays.{Bays}
 use Rattle.plan.specs.Ways.{pick}
 use Rattle.plan.specs.Plan.{bays, thickness, span, offset}
+use Rattle.plan.proofs.Reading.{bays-most}
 use Rattle.floor.proofs.Fair.{fair}
 use Rattle.lines.specs.declared.slab.Slab.{Slab}
 use Rattle.lines.specs.Lines.{panelThickness}
@@ -29,9 +30,9 @@ use Rattle.lines.specs.Asked.{Surveyed, Ready, AtPanel}
 use Rattle.lines.proofs.Slabs.{sized-of, bays-of}
 use Rattle.lines.proofs.Filled.{Filled, at-panel}
 use Rattle.limits.specs.Asked.{Neighbours}
-use Rattle.limits.specs.Limits.{somePair, somePanel, unlike, uneven, lesserAt, adjoining, astrayColumn, thinPanel}
+use Rattle.limits.specs.Limits.{somePair, somePanel, unlike, unlikeNext, uneven, lesserAt, adjoining, astrayAlong, astrayColumn, thinPanel}
 use Rattle.places.specs.Adjoining.{Adjoining}
-use Rattle.places.specs.Asked.{SpansAlong, EndOf, Columns, AtColumn}
+use Rattle.places.specs.Asked.{SpansAlong, AtSpan, EndOf, Columns, AtColumn, OneColumn}
 
 -- ---- the spans along a direction
 
@@ -67,13 +68,37 @@ module _ {f : List ℕ} {d : Way} {s : List ℕ} {n : ℕ} (p : SpansAlong f d s
   end-of h = record { some = omega (arith, bays-in); few = bays-in .1; place = h }
 
   -- the spans that adjoin a column are at hand
-  pub adjoining-of : {a : List ℕ} → Filled (lesserAt n (λ i. getD s i 0)) 0 (n + 1) a → Adjoining f d a
+  pub lesser-at : (k : ℕ) → k ≤ n → lesserAt n (λ i. getD s i 0) k ≡ adjoining f d k
   unfolding adjoining
+  lesser-at k l =
+      rw (← p .number, span-at {k = k - 1} (omega (arith, l, bays-in)) .0, span-at {k = min k (n - 1)} (omega (arith, l, bays-in)) .0)
+
+  pub adjoining-of : {a : List ℕ} → Filled (lesserAt n (λ i. getD s i 0)) 0 (n + 1) a → Adjoining f d a
   adjoining-of h =
-      record {
-        is = λ k q. let l : k ≤ n = omega (arith, p .number, q) in
-            h k (omega arith) (omega (arith, l)) ∙ rw (← p .number, span-at {k = k - 1} (omega (arith, l, bays-in)) .0, span-at {k = min k (n - 1)} (omega (arith, l, bays-in)) .0);
-      }
+      record { is = λ k q. let l : k ≤ n = omega (arith, p .number, q) in h k (omega arith) (omega (arith, l)) ∙ lesser-at k l }
+
+-- ---- one place alone
+
+-- both directions have a row
+pub row-there : (d : Way) {r : ℕ} → r ≡ pick d 0 1 → r < 2
+row-there X e = omega arith
+row-there Y e = omega arith
+
+module _ {f : List ℕ} {slab : Slab} {s : List (List ℕ)} {d : Way} {k : ℕ} (p : AtSpan f slab s d k) where
+  pub next-few : k + 1 < 12
+  next-few = omega (arith, p .next, bays-most f d)
+
+  pub two-spans : {r : ℕ} → r ≡ pick d 0 1 → Neighbours (getD (getD s r []) k 0) (getD (getD s r []) (k + 1) 0)
+  two-spans e = rw e (neighbours (along-of (p .surveyed) d) {k = k} (omega (arith, p .next, bays-of f (p .surveyed .shared) d .0)))
+
+  pub next-is : {r : ℕ} {b : Bool} → r ≡ pick d 0 1 → b ≡ unlike (getD (getD s r []) k 0) (getD (getD s r []) (k + 1) 0) → b ≡ unlikeNext f d k
+  next-is e q =
+      q ∙ rw (e, p .surveyed .spans d .is k (omega (arith, next-few)), p .surveyed .spans d .is (k + 1) (omega (arith, next-few)))
+
+-- the column is k-th along d
+way-line : (d : Way) {x y i j : ℕ} → i ≤ x → j ≤ y → pick d i j ≤ pick d x y
+way-line X hi hj = hi
+way-line Y hi hj = hj
 
 -- of line 0 the first of all is the one on its low side
 pub lesser-is : (n k : ℕ) (s : List ℕ) {a b r : ℕ} → a ≡ max k 1 → b ≡ min k (n - 1) → r ≡ min (getD s (a - 1) 0) (getD s b 0)
@@ -88,6 +113,23 @@ unfolding astrayColumn
 column-is {i = i} {j} at eu ep ev eq er =
     let c = at .row .columns in
     cc (c .along-x .is i (omega (arith, at .y-line, c .sized .x)), c .along-y .is j (omega (arith, at .row .x-line, c .sized .y)))
+
+-- one column alone: the spans that adjoin it along d
+module _ {f : List ℕ} {slab : Slab} {s : List (List ℕ)} {i j : ℕ} (p : OneColumn f slab s i j) (d : Way) where
+  spans-along : SpansAlong f d (rowOf s d) (pick d (slab .bays .x) (slab .bays .y))
+  spans-along = along-of (p .surveyed) d
+
+  line-in : pick d i j ≤ pick d (slab .bays .x) (slab .bays .y)
+  line-in =
+      let b = bays-of f (p .surveyed .shared) in way-line d (omega (arith, b X .0, p .y-line)) (omega (arith, b Y .0, p .x-line))
+
+  pub column-end : {n k : ℕ} → n ≡ pick d (slab .bays .x) (slab .bays .y) → k ≡ pick d i j → EndOf n k
+  column-end en ek = rw (en, ek) (end-of spans-along line-in)
+
+  pub along-is : {r n k u v : ℕ} {b : Bool} → r ≡ pick d 0 1 → n ≡ pick d (slab .bays .x) (slab .bays .y) → k ≡ pick d i j
+      → v ≡ lesserAt n (λ m. getD (getD s r []) m 0) k → u ≡ offset f d i j → b ≡ ltb v (10 * u) → b ≡ astrayAlong f d i j
+  along-is er en ek ev eu eb =
+      eb ∙ rw (ev, eu, er, en, ek) (ap (λ (m : ℕ). ltb m (10 * offset f d i j)) (lesser-at spans-along (pick d i j) line-in))
 
 pub column-few : {f : List ℕ} {b : Bays} {x y : List ℕ} {i j : ℕ} → AtColumn f b x y i j → (i ≤ 12) × (j ≤ 12)
 column-few at =

@@ -1,6 +1,6 @@
 -- What leaves ask of their callers. A reader who only wants to know what the program does need not read this file.
 -- Assumes nothing.
-use Prim.Native.Nat.{ℕ, _≤_, _<_}
+use Prim.Native.Nat.{ℕ, _+_, _≤_, _<_}
 use mathlib.Core.List.{List}
 use mathlib.Core.Path.{_≡_}
 use Rattle.plan.specs.declared.ways.Way.{Way}
@@ -9,7 +9,9 @@ use Rattle.plan.specs.declared.read.Bays.{Bays}
 use Rattle.plan.specs.Plan.{bays}
 use Rattle.plan.specs.Asked.{Sized}
 use Rattle.floor.specs.Refusal.{refusal}
+use Rattle.lines.specs.declared.slab.Slab.{Slab}
 use Rattle.lines.specs.Rows.{Spans}
+use Rattle.lines.specs.Asked.{Surveyed}
 use Rattle.places.specs.Adjoining.{Adjoining}
 
 -- the n spans along d of an accepted floor
@@ -17,6 +19,11 @@ pub record SpansAlong (f : List ℕ) (d : Way) (s : List ℕ) (n : ℕ) : Type 0
   pub accepted : refusal f ≡ 0
   pub spans : Spans f d s
   pub number : n ≡ bays f d
+
+-- span k along d, and one after it
+pub record AtSpan (f : List ℕ) (slab : Slab) (s : List (List ℕ)) (d : Way) (k : ℕ) : Type 0 where
+  pub surveyed : Surveyed f slab s
+  pub next : k + 1 < bays f d
 
 -- k is where one of n spans starts or ends
 pub record EndOf (n k : ℕ) : Type 0 where
@@ -37,3 +44,9 @@ pub record ColumnRow (f : List ℕ) (b : Bays) (x y : List ℕ) (j : ℕ) : Type
 pub record AtColumn (f : List ℕ) (b : Bays) (x y : List ℕ) (i j : ℕ) : Type 0 where
   pub row : ColumnRow f b x y j
   pub y-line : i ≤ b .x
+
+-- the column on y line i and x line j, with all spans of the floor
+pub record OneColumn (f : List ℕ) (slab : Slab) (s : List (List ℕ)) (i j : ℕ) : Type 0 where
+  pub surveyed : Surveyed f slab s
+  pub y-line : i ≤ bays f X
+  pub x-line : j ≤ bays f Y

@@ -6,9 +6,9 @@ ghost use Rattle.numbers.specs.Tests.{some};
 ghost use Rattle.plan.specs.declared.ways.Way.the-variants.{X, Y};
 ghost use Rattle.plan.specs.Plan.{bays};
 ghost use Rattle.lines.specs.Asked.{Surveyed, Ready};
-ghost use Rattle.limits.specs.Limits.{somePanel, uneven, lesserAt, astrayColumn, astray, thinPanel};
+ghost use Rattle.limits.specs.Limits.{somePanel, unlikeNext, uneven, lesserAt, astrayAlong, astrayColumn, astray, thinPanel};
 ghost use Rattle.places.specs.Adjoining.{Adjoining};
-ghost use Rattle.places.specs.Asked.{SpansAlong, EndOf, Columns, ColumnRow, AtColumn};
+ghost use Rattle.places.specs.Asked.{SpansAlong, AtSpan, EndOf, Columns, ColumnRow, AtColumn, OneColumn};
 use limits::exceeds;
 use limits::unlike;
 use lines::line::X;
@@ -21,6 +21,7 @@ use numbers::smaller;
 use plan::read::Bays;
 use plan::read::offset;
 use plan::ways::Way;
+use plan::ways::pick;
 
 // 4, of the n spans along d.
 pub fn uneven(f: &[u8], d: Way, s: &[u64; 13], n: u32) -> bool
@@ -36,6 +37,16 @@ pub fn uneven(f: &[u8], d: Way, s: &[u64; 13], n: u32) -> bool
         k += 1;
     }
     false
+}
+
+// 4, of span k along d and the next one.
+pub fn unlike_next(f: &[u8], slab: Slab, spans: &[[u64; 13]; 2], d: Way, k: u32) -> bool
+    requires { ⌜ AtSpan (now f) slab (now spans) d k ⌝ }
+    ensures { λ r. ⌜ r ≡ unlikeNext (now (f .entry)) d k ⌝ }
+{
+    let row = pick(d, 0, 1) as usize;
+    let i = k as usize;
+    unlike(spans[row][i], spans[row][i + 1])
 }
 
 // Of n spans in a row, the shorter of those that adjoin column k along them.
@@ -113,6 +124,17 @@ pub fn astray(f: &[u8], slab: Slab, spans: &[[u64; 13]; 2]) -> bool
     let x = adjoining(f, Way::X, &spans[X], slab.bays.x);
     let y = adjoining(f, Way::Y, &spans[Y], slab.bays.y);
     some_astray(f, slab.bays, &x, &y)
+}
+
+// 8, along d, of the column on y line i and x line j alone.
+pub fn astray_along(f: &[u8], slab: Slab, spans: &[[u64; 13]; 2], d: Way, i: u32, j: u32) -> bool
+    requires { ⌜ OneColumn (now f) slab (now spans) i j ⌝ }
+    ensures { λ r. ⌜ r ≡ astrayAlong (now (f .entry)) d i j ⌝ }
+{
+    let b = slab.bays;
+    let row = pick(d, 0, 1) as usize;
+    let shorter = shorter_at(&spans[row], pick(d, b.x, b.y), pick(d, i, j));
+    exceeds(offset(f, b, d, i, j), shorter)
 }
 
 // 64: the panels row by row, left at the first for which the slab is too thin.

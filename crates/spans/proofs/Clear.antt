@@ -7,7 +7,7 @@
 use Prim.Native.Nat.{ℕ, _+_, _-_, _*_, _≤_, _<_, zero-le, min, max}
 use mathlib.Core.Bool.{Bool, true, false}
 use mathlib.Core.List.{List}
-use mathlib.Core.Logic.{inl, inr, ⊎-elim}
+use mathlib.Core.Logic.{⊎-elim}
 use mathlib.Core.Path.{_≡_, refl}
 use native.Mathlib.Decide.{decLt}
 use native.Mathlib.Omega.{arith}
@@ -27,7 +27,8 @@ use Rattle.lines.specs.Lines.{outer, below, above}
 use Rattle.lines.specs.Slabs.{slabOf}
 use Rattle.lines.specs.Asked.{OnLine}
 use Rattle.lines.proofs.Floors.{beside-of, line-of, beam-of}
-use Rattle.limits.specs.Meaning.{Few, Slender}
+use Rattle.limits.specs.declared.Limit.the-variants.{Few, Slender}
+use Rattle.limits.specs.Meaning.{SomePlace}
 use Rattle.limits.proofs.Meaning.{broken, clear-is}
 use Rattle.spans.specs.declared.view.EndView.{EndView}
 use Rattle.spans.specs.Views.{lineView, endLine, outerEnd, innerEnd, lowEnd, highEnd, viewOf}
@@ -42,11 +43,11 @@ Sided a b = (a ≤ 2 * b) × (b ≤ 2 * a)
 abbrev SidedIfThere : ℕ → ℕ → Type 0
 SidedIfThere a b = 0 < b → Sided a b
 
-module _ (f : List ℕ) (n : ¬ Slender f) where
+module _ (f : List ℕ) (n : ¬ SomePlace f Slender) where
   xy-sides : (i j : ℕ) → i < bays f X → j < bays f Y → Sided (span f X i) (span f Y j)
   xy-sides i j hi hj =
       elim (decLt (2 * min (span f X i) (span f Y j)) (max (span f X i) (span f Y j))) [
-        | yes q ↦ absurd (n (i, j, hi, hj, q))
+        | yes q ↦ absurd (n (X, i, j, ((tt, hi, hj), q)))
         | no q ↦ (omega arith, omega arith)
       ]
 
@@ -69,7 +70,7 @@ module _ {f : List ℕ} {d : Way} {l s : ℕ} (c : ClearSpan f d l s) where
   beside-sides : (m : ℕ) → SidedIfThere (span f d s) (span f (across d) m)
   beside-sides m there =
       elim (decLt m (bays f (across d))) [
-        | yes q ↦ panel-sides f (clear-is (broken f (c .accepted)) .0 (c .clear) .two) d s m (c .span) q
+        | yes q ↦ panel-sides f (clear-is (broken f (c .accepted)) .0 (c .clear) Slender) d s m (c .span) q
         | no q ↦ absurd (omega (arith, absent f (spanKind (across d)) m 1 (omega (arith, span-count f (across d)))))
       ]
 
@@ -118,13 +119,9 @@ module _ {f : List ℕ} {d : Way} {l s : ℕ} (c : ClearSpan f d l s) where
       by-test (λ (e : EndView). OneOuter e (highEnd f d s)) (says-eq s 0)
       (λ z. by-test (λ (e : EndView). e .outer ≡ false) (says-eq (s + 1) (bays f d)) (λ y. absurd (omega (arith, three d))) (λ y. refl)) (λ z. refl)
     where
-      few-of : (d : Way) → bays f d < 3 → Few f
-      few-of X h = inl h
-      few-of Y h = inr h
-
       three : (d : Way) → 3 ≤ bays f d
       three d =
           elim (decLt (bays f d) 3) [
-            | yes q ↦ absurd (clear-is (broken f (c .accepted)) .0 (c .clear) .one (few-of d q))
+            | yes q ↦ absurd (clear-is (broken f (c .accepted)) .0 (c .clear) Few (d, 0, 0, ((refl, refl), q)))
             | no q ↦ omega arith
           ]

@@ -1,7 +1,7 @@
-//! The rules of 01, and requests One to Four of 02, in plain Rust written for speed: what the proved library is
-//! timed against.
+//! The rules of 01, requests One to Four of 02 and the list of broken places beyond them, in plain Rust written for
+//! speed: what the proved library is timed against.
 //!
-//! The five calls are the library's. Each reads the floor's bytes once into fixed arrays and works from
+//! The six calls are the library's. Each reads the floor's bytes once into fixed arrays and works from
 //! these; nothing is kept between calls. Every number of 01 fits 64 bits.
 
 mod change;
@@ -12,6 +12,7 @@ mod frames;
 mod governing;
 mod judge;
 mod lines;
+mod places;
 mod steel;
 mod strips;
 mod thickness;
@@ -23,6 +24,7 @@ use floor::Floor;
 use frames::Spans;
 use judge::Layout;
 use lines::Stiffness;
+use places::Place;
 use verdict::verdict;
 
 /// "A refused opening or change gives verdict 255"
@@ -127,4 +129,25 @@ fn yes_or_no(bytes: &[u8]) -> Result<u32, u32> {
     let floor = file::read(bytes)?;
     let layout = judge::judge(&floor)?;
     Ok(clear::clear(&floor, layout).into())
+}
+
+/// Every place where a limit is broken, four numbers each: limit, direction, i, j.
+pub fn places(floor: &[u8], places: &mut [u32]) -> Answer {
+    Answer::of(listed(floor, places), 0)
+}
+
+/// "A refusal writes nothing": where not every floor's places would fit, they are listed apart first.
+fn listed(bytes: &[u8], places: &mut [u32]) -> Result<u32, u32> {
+    let floor = file::read(bytes)?;
+    let layout = judge::judge(&floor)?;
+    let (lent, _): (&mut [Place], _) = places.as_chunks_mut();
+    if lent.len() >= places::most(&floor) {
+        return Ok(places::list(&floor, layout, lent) as u32);
+    }
+    let mut apart = [Place::default(); places::MOST];
+    let count = places::list(&floor, layout, &mut apart);
+    // 25: "the slice is too short for this floor's places"
+    let lent = lent.get_mut(..count).ok_or(25u32)?;
+    lent.copy_from_slice(&apart[..count]);
+    Ok(count as u32)
 }

@@ -110,7 +110,7 @@ impl Bay {
     }
 }
 
-fn bays(floor: &Floor, layout: Layout, way: usize, stiffness: &Stiffness) -> [Bay; MOST_BAYS] {
+pub fn bays(floor: &Floor, layout: Layout, way: usize, stiffness: &Stiffness) -> [Bay; MOST_BAYS] {
     let alphas = &stiffness.0[1 - way];
     let mut bays = [Bay::default(); MOST_BAYS];
     for (bay, place) in bays[..floor.bays[way]].iter_mut().enumerate() {
@@ -142,6 +142,7 @@ impl Slab {
     }
 
     /// For the panel where two bays cross.
+    #[inline(always)]
     pub fn thin(&self, column: &Bay, row: &Bay) -> bool {
         let s = column.beside + row.beside;
         let (mut t, mut n) = (self.t, self.n);

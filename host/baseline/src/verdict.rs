@@ -16,7 +16,7 @@ pub fn verdict(floor: &Floor, layout: Layout, stiffness: &Stiffness) -> u32 {
 }
 
 /// The least and the largest.
-fn ends<T: Ord + Copy>(numbers: &[T]) -> (T, T) {
+pub fn ends<T: Ord + Copy>(numbers: &[T]) -> (T, T) {
     let first = (numbers[0], numbers[0]);
     numbers.iter().copied().fold(first, wider)
 }
@@ -40,23 +40,34 @@ pub fn too_long(floor: &Floor) -> bool {
 
 /// 4: "for neighbouring spans in a direction, 3(longer − shorter) > longer."
 pub fn too_different(spans: &[u32]) -> bool {
-    spans.windows(2).any(|pair| {
-        let (shorter, longer) = ends(pair);
-        3 * (longer - shorter) > longer
-    })
+    spans.windows(2).any(different)
 }
 
-/// 8: "ten times an offset exceeds a span adjoining that column in its direction."
-pub fn too_far_off(floor: &Floor, way: usize) -> bool {
-    let spans = floor.spans(way);
-    // The shorter span that adjoins each line across the direction.
+/// Of two neighbours.
+pub fn different(pair: &[u32]) -> bool {
+    let (shorter, longer) = ends(pair);
+    3 * (longer - shorter) > longer
+}
+
+/// The shorter span that adjoins each line across the direction of the spans.
+pub fn shorter_adjoining(spans: &[u32]) -> [u32; MOST_LINES] {
     let mut adjoining = [u32::MAX; MOST_LINES];
     for (bay, &span) in spans.iter().enumerate() {
         adjoining[bay] = adjoining[bay].min(span);
         adjoining[bay + 1] = span;
     }
+    adjoining
+}
+
+/// Of one column and the shorter span that adjoins it.
+pub fn far(offset: u32, span: u32) -> bool {
+    10 * offset > span
+}
+
+/// 8: "ten times an offset exceeds a span adjoining that column in its direction."
+pub fn too_far_off(floor: &Floor, way: usize) -> bool {
+    let adjoining = shorter_adjoining(floor.spans(way));
     let rows = floor.offsets(way).chunks_exact(floor.lines(Y));
-    let far = |offset: u32, span: u32| 10 * offset > span;
     if way == X {
         let row_far = |row: &[u32]| {
             let columns = row.iter().zip(&adjoining);
@@ -87,17 +98,21 @@ pub fn apart((least_p, most_p): (u64, u64), (least_q, most_q): (u64, u64)) -> bo
 
 /// 32: "in a panel p > 5q or q > 5p": p is the same along a row of panels and q along a column of them.
 fn too_unlike(floor: &Floor, stiffness: &Stiffness) -> bool {
-    let Stiffness([x, y]) = stiffness;
-    let mut sides = [0; MOST_BAYS];
-    let p = sums_by_squares(&mut sides, x, floor.spans(Y));
-    let q = sums_by_squares(&mut sides, y, floor.spans(X));
-    apart(p, q)
+    let (p, q) = sums_by_squares(floor, stiffness);
+    apart(ends(&p[..floor.bays[Y]]), ends(&q[..floor.bays[X]]))
 }
 
-/// The least and the largest.
-fn sums_by_squares(room: &mut [u64; MOST_BAYS], alphas: &[u64], spans: &[u32]) -> (u64, u64) {
-    for (bay, &span) in spans.iter().enumerate() {
-        room[bay] = sum_by_square(alphas[bay] + alphas[bay + 1], span);
-    }
-    ends(&room[..spans.len()])
+/// p of each y bay and q of each x bay.
+pub fn sums_by_squares(
+    floor: &Floor,
+    Stiffness([x, y]): &Stiffness,
+) -> ([u64; MOST_BAYS], [u64; MOST_BAYS]) {
+    let of_bays = |alphas: &[u64], spans: &[u32]| {
+        let mut sums = [0; MOST_BAYS];
+        for (bay, &span) in spans.iter().enumerate() {
+            sums[bay] = sum_by_square(alphas[bay] + alphas[bay + 1], span);
+        }
+        sums
+    };
+    (of_bays(x, floor.spans(Y)), of_bays(y, floor.spans(X)))
 }

@@ -8,6 +8,7 @@ use cases::queries;
 use cases::runs::{self, play, Played, Run};
 use reference::floor_file::RECORD_BYTES;
 use reference::panel;
+use reference::places::{places, ALWAYS_SUFFICE, NUMBERS};
 use reference::steel;
 use reference::verdict;
 
@@ -22,18 +23,44 @@ fn hold_clear(description: &str, floor: &[u8]) {
     assert_eq!(answer(baseline::clear(floor)), right, "{description}");
 }
 
-/// Every floor on the way is asked whether it is clear.
+/// The answer, the places and what lies past them, in a slice of so many numbers. Answers how many places there are.
+fn hold_places(description: &str, floor: &[u8], length: usize) -> usize {
+    let (mut given, mut right) = (vec![u32::MAX; length], vec![u32::MAX; length]);
+    let (refused, count) = places(floor, &mut right);
+    assert_eq!(
+        answer(baseline::places(floor, &mut given)),
+        (refused, count),
+        "{description}, {length} numbers"
+    );
+    assert!(given == right, "{description}, {length} numbers");
+    count as usize
+}
+
+/// Enough, a number too few, more than enough, none.
+fn hold_places_in_every_slice(description: &str, floor: &[u8]) {
+    let asked = NUMBERS * hold_places(description, floor, ALWAYS_SUFFICE);
+    for length in [asked, asked.saturating_sub(1), asked + 1, asked + 40, 0] {
+        hold_places(description, floor, length);
+    }
+}
+
+fn hold_judged(description: &str, floor: &[u8]) {
+    hold_clear(description, floor);
+    hold_places(description, floor, ALWAYS_SUFFICE);
+}
+
+/// Every floor on the way is asked whether it is clear, and for its places.
 fn played(run: &Run) -> Played {
     let (mut floor, mut table) = (run.floor.clone(), run.table.clone());
     let mut governing = run.governing.clone();
-    hold_clear(&run.description, &floor);
+    hold_judged(&run.description, &floor);
     let opening = run
         .opens
         .then(|| answer(baseline::open(&floor, &mut table, &mut governing)));
     let changes = run.changes.iter();
     let changes = changes.map(|change| {
         let given = baseline::change(&mut floor, &mut table, &mut governing, change);
-        hold_clear(&run.description, &floor);
+        hold_judged(&run.description, &floor);
         answer(given)
     });
     Played {
@@ -75,6 +102,15 @@ fn every_floor() {
     for floor in floors::all() {
         hold_run(&opening(&floor.description, &floor.bytes));
         hold_panels(&floor.description, &floor.bytes);
+        hold_places_in_every_slice(&floor.description, &floor.bytes);
+    }
+}
+
+#[test]
+fn floors_broken_in_one_place() {
+    for floor in floors::single::floors() {
+        hold_clear(&floor.description, &floor.bytes);
+        hold_places_in_every_slice(&floor.description, &floor.bytes);
     }
 }
 

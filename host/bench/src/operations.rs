@@ -3,6 +3,7 @@
 mod changes;
 mod clear;
 mod openings;
+mod places;
 mod queries;
 
 pub use queries::steel;
@@ -23,6 +24,8 @@ pub enum Work {
     },
     Panel(u64, u64),
     Clear,
+    /// On a slice of so many numbers.
+    Places(usize),
     Steel(Query),
 }
 
@@ -44,6 +47,7 @@ pub fn at(size: Size) -> Vec<Operation> {
         changes::others(size),
         queries::panels(size),
         clear::at(size),
+        places::at(size),
     ]
     .into_iter()
     .flatten()

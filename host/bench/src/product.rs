@@ -1,4 +1,4 @@
-//! The two products that are timed, behind the same five calls.
+//! The two products that are timed, behind the same six calls.
 
 /// Refusal and value.
 pub type Answer = (u32, u32);
@@ -11,6 +11,7 @@ pub trait Product {
     fn change(floor: &mut [u8], table: &mut [u32], governing: &mut [u32], change: &[u8]) -> Answer;
     fn panel(floor: &[u8], x: u64, y: u64) -> Answer;
     fn clear(floor: &[u8]) -> Answer;
+    fn places(floor: &[u8], places: &mut [u32]) -> Answer;
     fn steel(query: Query) -> Answer;
 }
 
@@ -41,6 +42,11 @@ macro_rules! product {
 
             fn clear(floor: &[u8]) -> Answer {
                 let answer = $library::clear(floor);
+                (answer.refusal, answer.value)
+            }
+
+            fn places(floor: &[u8], places: &mut [u32]) -> Answer {
+                let answer = $library::places(floor, places);
                 (answer.refusal, answer.value)
             }
 

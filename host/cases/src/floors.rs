@@ -1,11 +1,13 @@
 //! Floors to hold the printing program against. What has to be printed for them is worked out, never
 //! written here.
 
+pub mod all_broken;
 mod beams;
 pub mod drawn;
 mod edges;
 pub mod long;
 pub mod refused;
+pub mod scattered;
 pub mod single;
 pub mod small;
 mod spoilt;
@@ -17,6 +19,7 @@ use drawn::Wanted;
 use floor::Floor;
 use reference::layout::Layout;
 
+#[derive(Clone, Debug)]
 pub struct Described {
     pub description: String,
     pub bytes: Vec<u8>,
@@ -49,6 +52,8 @@ pub fn all() -> Vec<Described> {
         edges::floors(),
         spoilt::floors(),
         tied::floors(),
+        all_broken::floors(),
+        scattered::floors(),
         refused::floors(),
     ]
     .into_iter()

@@ -1,8 +1,10 @@
-//! Every place of a floor where a limit of the method is broken.
+//! Every place of a floor where a limit of the method is broken: a second list beside the reference's, of the floor's
+//! numbers as `floor` reads them. The two have the α and the least thicknesses in common.
 
 use floor::Floor;
 use reference::layout::{layout, Layout};
 use reference::panel::{least_thickness, x_line_alphas, y_line_alphas};
+use reference::places;
 use reference::verdict::too_unlike;
 
 #[derive(Clone, Copy, Debug, PartialEq, Eq, PartialOrd, Ord)]
@@ -31,7 +33,27 @@ pub struct Broken {
     pub place: Place,
 }
 
-/// Of a floor that is not refused.
+impl Broken {
+    /// "the limit (1, 2, 4, .. 64), a direction (0 x, 1 y, 0 where the limit has none), i, j"
+    pub fn listed(self) -> places::Place {
+        let (along, i, j) = match self.place {
+            Place::Bays(along) => (along, 0, 0),
+            Place::Panel(i, j) => (Along::X, i, j),
+            Place::Neighbours(Along::X, low) => (Along::X, low, 0),
+            Place::Neighbours(Along::Y, low) => (Along::Y, 0, low),
+            Place::Column(along, i, j) => (along, i, j),
+            Place::Loads => (Along::X, 0, 0),
+        };
+        places::Place {
+            limit: self.limit,
+            direction: along as u128,
+            i: i as u128,
+            j: j as u128,
+        }
+    }
+}
+
+/// Of a floor that is not refused, in the order in which they are listed.
 pub fn broken(bytes: &[u8]) -> Vec<Broken> {
     let floor = Floor::of(bytes).expect("a floor that is taken");
     let of_limits = [
@@ -102,17 +124,17 @@ pub fn shorter_adjoining(line: usize, spans: &[u32]) -> u32 {
 /// 8: "ten times an offset exceeds a span adjoining that column in its direction."
 fn stray_columns(floor: &Floor) -> Vec<Place> {
     let y_lines = floor.x_spans.len() + 1;
-    let mut places = Vec::new();
-    for (index, &(along_x, along_y)) in floor.offsets.iter().enumerate() {
+    let (mut along_x, mut along_y) = (Vec::new(), Vec::new());
+    for (index, &(x, y)) in floor.offsets.iter().enumerate() {
         let (i, j) = (index % y_lines, index / y_lines);
-        if 10 * along_x > shorter_adjoining(i, &floor.x_spans) {
-            places.push(Place::Column(Along::X, i, j));
+        if 10 * x > shorter_adjoining(i, &floor.x_spans) {
+            along_x.push(Place::Column(Along::X, i, j));
         }
-        if 10 * along_y > shorter_adjoining(j, &floor.y_spans) {
-            places.push(Place::Column(Along::Y, i, j));
+        if 10 * y > shorter_adjoining(j, &floor.y_spans) {
+            along_y.push(Place::Column(Along::Y, i, j));
         }
     }
-    places
+    [along_x, along_y].concat()
 }
 
 /// 16: "L > 2D."

@@ -1,5 +1,5 @@
-//! Floors, each opened on a lent table and a governing slice of any numbers, asked whether it is clear, and asked for
-//! every panel.
+//! Floors, each opened on a lent table and a governing slice of any numbers, asked whether it is clear and where it is
+//! broken, and asked for every panel.
 
 mod beams;
 mod damage;
@@ -15,11 +15,15 @@ pub use drawn::floor;
 use crate::case::Case;
 use crate::clear;
 use crate::panels;
+use crate::places;
 use crate::same::{hex, same_answer};
 use crate::tally::{Counts, Opened, Tally};
 use cases::draw::Draw;
+use cases::floors::all_broken::all_broken;
+use cases::floors::scattered::scattered;
 use cases::floors::{tied, LAYOUTS};
 use cases::runs::tables::any_numbers;
+use floor::Floor;
 use reference::floor_file::{records_of_kind, sizes, Sizes};
 use reference::layout::layout;
 use reference::opening::open;
@@ -27,8 +31,9 @@ use reference::refusals::{refusal, SUCCESS};
 use reference::{governing, span, table};
 
 /// Floors in a case: as drawn, at the edge of a limit and past it, at an edge of beams and past it, with an outer
-/// line just strong enough and just too weak, with a tie, damaged, clear but for one place.
-pub const FLOORS: u64 = 4 + 2 + 2 + 2 + 1 + 2 + 2;
+/// line just strong enough and just too weak, with a tie, damaged, clear but for one place, broken here and there,
+/// broken everywhere.
+pub const FLOORS: u64 = 4 + 2 + 2 + 2 + 1 + 2 + 2 + 1 + 1;
 
 pub fn case(case: &mut Case) -> Result<(), String> {
     let drawn: [_; 4] = std::array::from_fn(|_| floor(&mut case.draw));
@@ -54,7 +59,21 @@ pub fn case(case: &mut Case) -> Result<(), String> {
         let (one, floor) = single::single(&mut case.draw);
         clear_but_for_one(case, &format!("clear but for {one:?}"), &floor.bytes())?;
     }
-    Ok(())
+    let [here_and_there, everywhere] = broken_floors(&mut case.draw);
+    broken(case, "broken here and there", &here_and_there.bytes())?;
+    broken(case, "broken everywhere", &everywhere.bytes())
+}
+
+fn broken_floors(draw: &mut Draw) -> [Floor; 2] {
+    let (layout, _) = draw.one_of(&LAYOUTS);
+    let here_and_there = drawn::bays(draw);
+    let (nx, ny) = drawn::bays(draw);
+    let everywhere = all_broken(nx, ny);
+    let everywhere = match draw.percent(50) {
+        true => everywhere.transposed(),
+        false => everywhere,
+    };
+    [scattered(draw, here_and_there, layout), everywhere]
 }
 
 /// A table and a governing slice of any numbers: mostly as many as the floor asks for and a tail of some
@@ -98,6 +117,13 @@ fn clear_but_for_one(case: &mut Case, words: &str, floor: &[u8]) -> Result<(), S
     Ok(())
 }
 
+/// Counted apart, too.
+fn broken(case: &mut Case, words: &str, floor: &[u8]) -> Result<(), String> {
+    let opened = compare(case, words, floor)?;
+    case.tally.scattered.add(opened);
+    Ok(())
+}
+
 /// Counted apart from the floors that somebody drew.
 pub fn spoilt(case: &mut Case, words: &str, floor: &[u8]) -> Result<(), String> {
     let opened = compare(case, words, floor)?;
@@ -118,6 +144,7 @@ fn compare(case: &mut Case, words: &str, floor: &[u8]) -> Result<Opened, String>
         .and_then(|()| slice.holds("governing", &right_slice))
         .map_err(|words| format!("opening: {words}"))
         .and_then(|()| clear::compare(case, floor, &lent))
+        .and_then(|()| places::compare(case, floor, &lent))
         .and_then(|()| panels::compare(case, floor, &lent))
         .map_err(|error| format!("floor {words}: {error}\n{}", hex(floor)))?;
     case.tally.floor_addresses.add(lent.address());

@@ -7,14 +7,17 @@ use gandhrumil::{Answer, Query};
 /// On a floor, a table and a governing slice.
 pub type Open = fn(&[u8], &mut [u32], &mut [u32]) -> Answer;
 pub type Change = fn(&mut [u8], &mut [u32], &mut [u32], &[u8]) -> Answer;
+/// On a floor and a slice for its places.
+pub type Places = fn(&[u8], &mut [u32]) -> Answer;
 
-/// The five calls, which a test may put wrong ones in place of.
+/// The six calls, which a test may put wrong ones in place of.
 #[derive(Clone, Copy)]
 pub struct Calls {
     pub open: Open,
     pub change: Change,
     pub panel: fn(&[u8], u64, u64) -> Answer,
     pub clear: fn(&[u8]) -> Answer,
+    pub places: Places,
     pub steel: fn(Query) -> Answer,
 }
 
@@ -23,6 +26,7 @@ pub const LIBRARY: Calls = Calls {
     change: gandhrumil::change,
     panel: gandhrumil::panel,
     clear: gandhrumil::clear,
+    places: gandhrumil::places,
     steel: gandhrumil::steel,
 };
 

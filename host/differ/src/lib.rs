@@ -10,6 +10,7 @@ pub mod floors;
 pub mod job;
 pub mod lent;
 pub mod panels;
+pub mod places;
 pub mod report;
 pub mod runs;
 pub mod same;

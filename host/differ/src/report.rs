@@ -1,6 +1,6 @@
 //! The counts in words.
 
-use crate::tally::{Before, Counts, Opened, Said, Step, Tally};
+use crate::tally::{Before, Counts, Listed, Opened, Said, Step, Tally};
 use std::fmt::Display;
 
 /// 1234567 as 1,234,567.
@@ -53,10 +53,11 @@ fn opened(words: &str, counts: &Counts<Opened>) -> String {
 
 fn floors(tally: &Tally) -> String {
     format!(
-        "floors: {}\n{}{}{}  limits broken: {}\n  clear floors: {}; {} choices of sides\n  bays: {} pairs, 12 by 12 {} times\n  beams: {}\n",
+        "floors: {}\n{}{}{}{}  limits broken: {}\n  clear floors: {}; {} choices of sides\n  bays: {} pairs, 12 by 12 {} times\n  beams: {}\n",
         grouped(tally.floors()),
         opened("undamaged", &tally.undamaged),
         opened("clear but for one place", &tally.single),
+        opened("broken here and there or everywhere", &tally.scattered),
         opened("damaged", &tally.damaged),
         listed(&tally.limits),
         listed(&tally.layouts),
@@ -99,6 +100,31 @@ fn clear(said: &Counts<Said>) -> String {
     )
 }
 
+fn places(tally: &Tally) -> String {
+    let told = &tally.places;
+    let refused = numbered(told, |told| match told {
+        Listed::Refused(number) => *number,
+        _ => 0,
+    });
+    let several = numbered(&tally.places_of_limits, |(limit, several)| match several {
+        true => *limit,
+        false => 0,
+    });
+    format!(
+        "asked for places: {}, of them {} none, {} one, {} several, {} refused ({})\n  \
+         several of one limit: {} (limit {})\n  lent to broken floors: {}\n",
+        grouped(told.total()),
+        grouped(told.of(&Listed::None)),
+        grouped(told.of(&Listed::One)),
+        grouped(told.of(&Listed::Several)),
+        grouped(refused.total()),
+        listed(&refused),
+        grouped(several.total()),
+        listed(&several),
+        listed(&tally.slices),
+    )
+}
+
 fn changes(tally: &Tally) -> String {
     let steps = &tally.changes;
     let refused = numbered(steps, |step| match step {
@@ -136,6 +162,7 @@ pub fn report(tally: &Tally) -> String {
     [
         floors(tally),
         clear(&tally.clear),
+        places(tally),
         queries("panel queries", &tally.panels),
         changes(tally),
         queries("steel queries", &tally.steel),

@@ -75,6 +75,39 @@ pub enum Said {
     Refused(u128),
 }
 
+/// What a floor is told that is asked for its places.
+#[derive(Clone, Copy, Debug, PartialEq, Eq, PartialOrd, Ord)]
+pub enum Listed {
+    None,
+    One,
+    Several,
+    Refused(u128),
+}
+
+/// The slice that is lent to a floor with places, by how many numbers these take.
+#[derive(Clone, Copy, Debug, PartialEq, Eq, PartialOrd, Ord)]
+pub enum Slice {
+    Exact,
+    OneShort,
+    Shorter,
+    Empty,
+    Longer,
+    AlwaysSuffices,
+}
+
+impl fmt::Display for Slice {
+    fn fmt(&self, f: &mut fmt::Formatter) -> fmt::Result {
+        f.write_str(match self {
+            Slice::Exact => "exactly enough",
+            Slice::OneShort => "a number short",
+            Slice::Shorter => "shorter",
+            Slice::Empty => "empty",
+            Slice::Longer => "longer",
+            Slice::AlwaysSuffices => "what always suffices",
+        })
+    }
+}
+
 /// What decides how stiff a beam's flange is, how stiff beams are to be (02, Two), and which edges are weak (02,
 /// Three).
 #[derive(Clone, Copy, Debug, PartialEq, Eq, PartialOrd, Ord)]
@@ -141,6 +174,8 @@ pub struct Tally {
     pub undamaged: Counts<Opened>,
     /// And those that are clear but for one place.
     pub single: Counts<Opened>,
+    /// And those that are broken here and there or everywhere.
+    pub scattered: Counts<Opened>,
     pub damaged: Counts<Opened>,
     /// Of the floors that are not refused: the limits that they break, and bays.
     pub limits: Counts<u128>,
@@ -151,6 +186,10 @@ pub struct Tally {
     pub layouts: Counts<&'static str>,
     pub sides: Counts<u128>,
     pub clear: Counts<Said>,
+    pub places: Counts<Listed>,
+    /// Of the broken floors: what they were lent for their places, and the limits with one place or with several.
+    pub slices: Counts<Slice>,
+    pub places_of_limits: Counts<(u128, bool)>,
     /// Panel queries, by their refusal or 0.
     pub panels: Counts<u128>,
     pub changes: Counts<Step>,
@@ -164,6 +203,7 @@ pub struct Tally {
     pub floor_addresses: Counts<usize>,
     pub table_addresses: Counts<usize>,
     pub governing_addresses: Counts<usize>,
+    pub places_addresses: Counts<usize>,
     pub change_addresses: Counts<usize>,
 }
 
@@ -171,6 +211,7 @@ impl Tally {
     pub fn merge(&mut self, other: Tally) {
         self.undamaged.merge(other.undamaged);
         self.single.merge(other.single);
+        self.scattered.merge(other.scattered);
         self.damaged.merge(other.damaged);
         self.limits.merge(other.limits);
         self.bays.merge(other.bays);
@@ -178,6 +219,9 @@ impl Tally {
         self.layouts.merge(other.layouts);
         self.sides.merge(other.sides);
         self.clear.merge(other.clear);
+        self.places.merge(other.places);
+        self.slices.merge(other.slices);
+        self.places_of_limits.merge(other.places_of_limits);
         self.panels.merge(other.panels);
         self.changes.merge(other.changes);
         self.kept_clear.merge(other.kept_clear);
@@ -186,10 +230,12 @@ impl Tally {
         self.floor_addresses.merge(other.floor_addresses);
         self.table_addresses.merge(other.table_addresses);
         self.governing_addresses.merge(other.governing_addresses);
+        self.places_addresses.merge(other.places_addresses);
         self.change_addresses.merge(other.change_addresses);
     }
 
     pub fn floors(&self) -> u64 {
-        self.undamaged.total() + self.single.total() + self.damaged.total()
+        let drawn = self.undamaged.total() + self.single.total() + self.scattered.total();
+        drawn + self.damaged.total()
     }
 }

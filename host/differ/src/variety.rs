@@ -1,6 +1,6 @@
 //! What a comparison should have met and has not: a generator that decays is noticed.
 
-use crate::tally::{BeamSort, Before, Counts, Opened, Said, Step, Tally};
+use crate::tally::{BeamSort, Before, Counts, Listed, Opened, Said, Slice, Step, Tally};
 use cases::runs::changes::KINDS;
 use std::collections::BTreeSet;
 
@@ -71,12 +71,47 @@ fn missing_of_clear(tally: &Tally) -> Vec<String> {
     })
 }
 
+const SLICES: [Slice; 6] = [
+    Slice::Exact,
+    Slice::OneShort,
+    Slice::Shorter,
+    Slice::Empty,
+    Slice::Longer,
+    Slice::AlwaysSuffices,
+];
+
+fn missing_of_places(tally: &Tally) -> Vec<String> {
+    let refused = (1..=7).chain([25]).map(Listed::Refused);
+    let told = [Listed::None, Listed::One, Listed::Several].into_iter();
+    let one = [1, 2, 4, 8, 16, 32, 64].map(|limit| (limit, false));
+    let several = [1, 2, 4, 8, 32, 64].map(|limit| (limit, true));
+    let of_limits = one.into_iter().chain(several);
+    [
+        missing(&tally.places, told.chain(refused), |listed| {
+            format!("a floor asked for its places: {listed:?}")
+        }),
+        missing(&tally.slices, SLICES, |slice| {
+            format!("a slice for places: {slice}")
+        }),
+        missing(&tally.places_of_limits, of_limits, |(limit, several)| {
+            let places = if several {
+                "several places"
+            } else {
+                "one place"
+            };
+            format!("a floor with {places} of limit {limit}")
+        }),
+    ]
+    .concat()
+}
+
 pub fn floors(tally: &Tally) -> Vec<String> {
     let refused = |number| Opened::Refused(number);
     let clear = tally.undamaged.of(&Opened::Clear);
     let number_places = [
         (&tally.table_addresses, "a table at each of 4 addresses"),
         (&tally.governing_addresses, "a slice at each of 4 addresses"),
+        (&tally.places_addresses, "places at each of 4 addresses"),
     ];
     [
         unless(
@@ -90,6 +125,7 @@ pub fn floors(tally: &Tally) -> Vec<String> {
             format!("a damaged floor: {opened:?}")
         }),
         missing_of_clear(tally),
+        missing_of_places(tally),
         missing(&tally.panels, [0, 1, 2, 3, 4, 5, 6, 7, 10], |number| {
             format!("a panel query: refusal {number}")
         }),

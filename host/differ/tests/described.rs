@@ -41,6 +41,7 @@ fn floors_and_inputs_longer_than_any_floor() {
     );
     assert_eq!(tally.floors(), described.len() as u64);
     assert_eq!(tally.clear.total(), described.len() as u64);
+    assert_eq!(tally.places.total(), described.len() as u64);
 }
 
 /// Each floor file is opened, with room enough for any table and slice, then changed where a change comes with it.
@@ -68,6 +69,7 @@ fn cases_of_every_refusal() {
     assert_eq!(tally.changes.total(), changes.count() as u64);
     assert!(tally.panels.total() > described.len() as u64);
     assert!(tally.clear.total() >= described.len() as u64);
+    assert_eq!(tally.places.total(), tally.clear.total());
 }
 
 #[test]
@@ -77,6 +79,7 @@ fn changes() {
     let changes: usize = described.iter().map(|run| run.changes.len()).sum();
     assert_eq!(tally.changes.total(), changes as u64);
     assert!(tally.clear.total() > changes as u64);
+    assert_eq!(tally.places.total(), tally.clear.total());
 }
 
 #[test]

@@ -73,6 +73,7 @@ fn without_addresses(tally: Tally) -> Tally {
         floor_addresses: Default::default(),
         table_addresses: Default::default(),
         governing_addresses: Default::default(),
+        places_addresses: Default::default(),
         change_addresses: Default::default(),
         ..tally
     }

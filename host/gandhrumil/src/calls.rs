@@ -33,5 +33,12 @@ extern "C" {
 
     pub fn gandhrumil_clear(floor: *const u8, floor_len: usize) -> Answer;
 
+    pub fn gandhrumil_places(
+        floor: *const u8,
+        floor_len: usize,
+        places: *mut u32,
+        places_len: usize,
+    ) -> Answer;
+
     pub fn gandhrumil_steel(m: u64, b: u64, t: u64, d: u64, fc: u64, fy: u64) -> Answer;
 }

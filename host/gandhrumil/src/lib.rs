@@ -1,4 +1,4 @@
-//! The five calls of the static library (`include/gandhrumil.h`), as safe functions of slices.
+//! The six calls of the static library (`include/gandhrumil.h`), as safe functions of slices.
 //!
 //! Every call takes any bytes, any lengths and any numbers. What each answers and writes is said in the header, and proved.
 
@@ -7,7 +7,10 @@ mod calls;
 pub use calls::Answer;
 
 /// `GANDHRUMIL_VERSION` of the header whose calls these are (docs/CHANGES.md).
-pub const VERSION: u32 = 5;
+pub const VERSION: u32 = 6;
+
+/// `GANDHRUMIL_PLACES_LEN`: numbers enough for the places of any floor.
+pub const PLACES_LEN: usize = 3_172;
 
 /// Opens a floor and fills its table, and the governing moments beside it.
 pub fn open(floor: &[u8], table: &mut [u32], governing: &mut [u32]) -> Answer {
@@ -51,6 +54,19 @@ pub fn panel(floor: &[u8], x: u64, y: u64) -> Answer {
 pub fn clear(floor: &[u8]) -> Answer {
     // SAFETY: the slice is lent for the call, with its own length.
     unsafe { calls::gandhrumil_clear(floor.as_ptr(), floor.len()) }
+}
+
+/// Where a floor breaks the limits: of each place limit, direction, i, j.
+pub fn places(floor: &[u8], places: &mut [u32]) -> Answer {
+    // SAFETY: the two slices are lent for the call, with their own lengths, and cannot overlap.
+    unsafe {
+        calls::gandhrumil_places(
+            floor.as_ptr(),
+            floor.len(),
+            places.as_mut_ptr(),
+            places.len(),
+        )
+    }
 }
 
 /// A steel query: the moment in N·cm; width, thickness and depth in mm; concrete and steel in MPa.

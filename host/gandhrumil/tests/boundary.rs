@@ -46,12 +46,12 @@ fn a_pointer_may_be_anything_where_its_length_is_0() {
 }
 
 #[test]
-fn the_five_calls_from_c() {
+fn the_six_calls_from_c() {
     run("figures", C);
 }
 
 #[test]
-fn the_five_calls_from_cpp() {
+fn the_six_calls_from_cpp() {
     run("figures", CPP);
 }
 
@@ -65,7 +65,7 @@ fn first_number(file: &str, words: &str) -> u32 {
     let text = fs::read_to_string(root().join(file)).unwrap();
     let line = text.lines().find_map(|line| line.strip_prefix(words));
     let number = line.unwrap_or_else(|| panic!("{file} has no line with {words}"));
-    number.parse().unwrap()
+    number.trim_end_matches(';').parse().unwrap()
 }
 
 #[test]
@@ -73,4 +73,12 @@ fn one_version() {
     let header = first_number("include/gandhrumil.h", "#define GANDHRUMIL_VERSION ");
     assert_eq!(gandhrumil::VERSION, header);
     assert_eq!(first_number("docs/CHANGES.md", "## Version "), header);
+}
+
+#[test]
+fn one_length_of_places() {
+    let header = first_number("include/gandhrumil.h", "#define GANDHRUMIL_PLACES_LEN ");
+    assert_eq!(gandhrumil::PLACES_LEN, header as usize);
+    let proved = first_number("crates/broken/src/lib.rt", "const SUFFICES: usize = ");
+    assert_eq!(proved, header);
 }

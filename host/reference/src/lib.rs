@@ -1,5 +1,5 @@
-//! The rules of 01, and requests One to Four of 02, *Later changes to the base*, written as plainly as they
-//! read.
+//! The rules of 01, requests One to Four of 02, *Later changes to the base*, and the list of broken places beyond
+//! them, written as plainly as they read.
 //!
 //! Speed and memory count for nothing here. Each rule stands under the sentence of 01 or 02 it follows,
 //! and every number is a `u128`, or an `i128` where it may fall below 0, far wider than any value of
@@ -17,6 +17,7 @@ pub mod moments;
 pub mod named;
 pub mod opening;
 pub mod panel;
+pub mod places;
 pub mod refusals;
 pub mod sheet;
 pub mod span;

@@ -2,7 +2,12 @@
 
 pub mod clear;
 mod culprits;
+mod folds;
+mod limits;
+mod numbers;
 mod panels;
+mod picks;
+mod places;
 mod records;
 pub mod refusal;
 pub mod verdict;

@@ -1,7 +1,7 @@
 -- Each callee's equation in turn, by cases.
 -- Assumes nothing.
 use borrow.Author.Needs.{needs}
-use Rattle.clear.proofs.Verdict.{thin-first}
+use Rattle.verdict.proofs.Sum.{thin-of}
 use Rattle.clear.proofs.first_panel_broken.Statement.{statement}
 use Rattle.clear.proofs.first_panel_broken.Tie as tie
 
@@ -16,4 +16,4 @@ first-panel-broken-spec =
     (λ c. search needs)
     (λ c κs. search needs)
     (λ c. rw (← c .before .before .before .before .before .slender-at .ensures, ← c .before .before .before .before .unequal-at .ensures, ← c .before .before .before .either .ensures, c .before .before .if1 .left)
-    (thin-first _ (c .before .before .before .before .before .before .before .pre .panel .surveyed .shared) (c .panel-thickness .ensures .0))))
+    (thin-of _ (c .before .before .before .before .before .before .before .pre .panel .surveyed .shared) 0 0 (c .panel-thickness .ensures .0))))

@@ -44,7 +44,7 @@ fn first_panel_unbalanced(floor: &Floor) -> Floor {
 }
 
 /// 64: a panel of 8,800 by 8,200 asks for 203, and one with a span of 5,400 to 6,200 for less than 200.
-fn panel_too_thin(floor: &Floor, bay: usize) -> Floor {
+pub fn panel_too_thin(floor: &Floor, bay: usize) -> Floor {
     Floor {
         t: 200,
         ..with_bay(floor, bay, 8_800, 8_200)
@@ -59,7 +59,7 @@ fn first_bay_too_thin(floor: &Floor) -> Floor {
 }
 
 /// 8: a tenth of its y span is 580.
-fn last_column_off(floor: &Floor) -> Floor {
+pub fn last_column_off(floor: &Floor) -> Floor {
     let mut floor = floor.clone();
     floor.offsets.last_mut().expect("a column").1 = 581;
     floor

@@ -6,7 +6,7 @@ use crate::product::Answer;
 use crate::size::Size;
 use floor::Floor;
 
-fn open(name: &'static str, floor: &Floor, answer: Answer, writes: usize) -> Operation {
+pub fn open(name: &'static str, floor: &Floor, answer: Answer, writes: usize) -> Operation {
     Operation {
         name,
         floor: floor.bytes(),

@@ -6,7 +6,7 @@ use super::{weak, Described, LAYOUTS};
 use crate::draw::Draw;
 use floor::Floor;
 use reference::layout::Layout;
-use reference::verdict::{directions_are_too_unlike, judge};
+use reference::verdict::{judge, unbalanced_panels};
 
 pub fn floors() -> Vec<Described> {
     let edges = [
@@ -112,7 +112,7 @@ fn drawn_stiffnesses() -> Vec<Edge> {
         };
         let mut floor = drawn::clear(&mut draw, wanted);
         let line = draw.between(0, 4);
-        let unlike = |floor: &Floor| directions_are_too_unlike(&floor.bytes());
+        let unlike = |floor: &Floor| !unbalanced_panels(&floor.bytes()).is_empty();
         while !unlike(&floor) && floor.x_lines[line].1 < 1_500 {
             floor.x_lines[line].1 += 1;
         }

@@ -6,6 +6,7 @@ mod command;
 mod draw;
 mod floor_refusals;
 mod floors;
+mod places;
 mod queries;
 mod runs;
 mod single;

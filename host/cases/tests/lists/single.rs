@@ -13,21 +13,6 @@ use std::sync::LazyLock;
 
 static SINGLES: LazyLock<Vec<Single>> = LazyLock::new(single::all);
 
-/// The places are counted apart from the reference's verdict, which knows no places.
-#[test]
-fn places_and_verdict_agree() {
-    let singles = single::floors();
-    assert!(singles.len() > 800, "{}", singles.len());
-    for floor in all_floors().iter().chain(&singles) {
-        let (0, verdict) = judge(&floor.bytes) else {
-            continue;
-        };
-        let limits: BTreeSet<u128> = broken(&floor.bytes).iter().map(|at| at.limit).collect();
-        let sum: u128 = limits.iter().sum();
-        assert_eq!(sum, verdict, "{}", floor.description);
-    }
-}
-
 #[test]
 fn no_two_are_alike() {
     let singles = single::floors();

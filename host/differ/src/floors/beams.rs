@@ -9,7 +9,7 @@ use cases::floors::drawn::thick;
 use floor::{Floor, NO_BEAM};
 use reference::layout::Layout;
 use reference::panel::{panels, x_line_alphas, y_line_alphas};
-use reference::verdict::directions_are_too_unlike;
+use reference::verdict::unbalanced_panels;
 use std::cmp::Ordering;
 use std::collections::BTreeSet;
 
@@ -59,7 +59,7 @@ fn beams_everywhere(floor: &Floor) -> bool {
 }
 
 fn too_unlike(floor: &Floor) -> bool {
-    directions_are_too_unlike(&floor.bytes())
+    !unbalanced_panels(&floor.bytes()).is_empty()
 }
 
 fn set_depth(lines: &mut [(u32, u32)], depth: u32) {

@@ -82,10 +82,13 @@ pub fn neighbours(draw: &mut Draw, floor: &Floor) -> Option<(Floor, Floor)> {
     both(at, |past| past.x_spans[of_the_longer] -= 20)
 }
 
-/// 8: "ten times an offset exceeds a span adjoining that column in its direction"
+/// 8: "ten times an offset exceeds a span adjoining that column in its direction". Of any column, and of the last one
+/// often.
 pub fn offset(draw: &mut Draw, floor: &Floor) -> Option<(Floor, Floor)> {
     let bays = floor.x_spans.len();
-    let column = draw.between(0, floor.offsets.len() - 1);
+    let last = floor.offsets.len() - 1;
+    let any = draw.between(0, last);
+    let column = draw.one_of(&[any, any, any, last]);
     let line = column % (bays + 1);
     let adjoining = &floor.x_spans[line.saturating_sub(1)..bays.min(line + 1)];
     let shorter = adjoining.iter().min().expect("a span");

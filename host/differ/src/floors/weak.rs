@@ -13,7 +13,7 @@ use reference::panel::{
 };
 use reference::stiffness::{alpha, frame_width};
 use reference::thickness::{least_thickness, Panel};
-use reference::verdict::slab_is_too_thin;
+use reference::verdict::thin_panels;
 use std::collections::BTreeSet;
 
 /// Width and depth.
@@ -116,7 +116,7 @@ fn too_thin_by_an_edge(floor: &[u8]) -> bool {
         })
     };
     let t = sizes(floor).t;
-    slab_is_too_thin(floor)
+    !thin_panels(floor).is_empty()
         && panels(floor)
             .into_iter()
             .map(strong)

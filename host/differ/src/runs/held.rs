@@ -5,6 +5,7 @@ use crate::case::Case;
 use crate::clear;
 use crate::lent::Lent;
 use crate::panels;
+use crate::places;
 use crate::same::same_answer;
 use crate::tally::{Before, Step, Tally};
 use cases::draw::Draw;
@@ -56,7 +57,8 @@ impl Held {
         self.table_is_right = right.0 == SUCCESS;
         let same = self.same(answer, right);
         same.map_err(|words| format!("opening: {words}"))?;
-        self.clear(case)
+        self.clear(case)?;
+        self.places(case)
     }
 
     /// Answers whether the change is taken, where library and reference are at one.
@@ -82,11 +84,16 @@ impl Held {
         }
         self.ties = false;
         self.clear(case)?;
+        self.places(case)?;
         Ok(refused == SUCCESS)
     }
 
     fn clear(&self, case: &mut Case) -> Result<(), String> {
         clear::compare(case, &self.floor, &self.lent_floor)
+    }
+
+    fn places(&self, case: &mut Case) -> Result<(), String> {
+        places::compare(case, &self.floor, &self.lent_floor)
     }
 
     pub fn panels(&self, case: &mut Case) -> Result<(), String> {

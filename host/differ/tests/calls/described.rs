@@ -1,12 +1,14 @@
 //! Batches of what is described one by one: floors and changes that each show one thing, runs of changes, floors broken
-//! in one place, steel queries.
+//! in one place, here and there or everywhere, steel queries.
 
 use crate::stream::{Batch, Call, Lent, LONGEST_GOVERNING, LONGEST_TABLE};
-use cases::floors::single;
+use cases::floors::{all_broken, scattered, single, Described};
 use cases::queries;
 use cases::refusals::{self, Case};
 use cases::runs::{self, Run};
 use gandhrumil::Query;
+use reference::places::{self, broken_places};
+use reference::refusals::{refusal, SUCCESS};
 
 fn of_case(case: Case) -> Batch {
     // As many numbers as any floor of that length asks for, and more.
@@ -19,6 +21,7 @@ fn of_case(case: Case) -> Batch {
     });
     batch.make(case.change.map_or(Call::Open, Call::Change));
     batch.make(Call::Clear);
+    batch.make(Call::Places(vec![9; 6]));
     batch.show();
     batch
 }
@@ -36,19 +39,28 @@ fn of_run(run: Run) -> Batch {
         batch.make(Call::Change(change));
         batch.make(Call::Clear);
     }
+    batch.make(Call::Places(vec![9; 40]));
     batch.show();
     batch
 }
 
-/// Asked whether they are clear, and nothing more.
-fn of_singles() -> Vec<Batch> {
-    let floors = single::floors().into_iter();
-    let batch = |floor: Vec<u8>| {
-        let mut batch = Batch::new(Lent::of(&floor, &[], &[]));
+/// Asked whether they are clear and for their places, and nothing more. No number is left past the places, two are,
+/// the last place lacks a number.
+fn of_broken() -> Vec<Batch> {
+    let floors = [single::floors(), scattered::floors(), all_broken::floors()].concat();
+    let batch = |floor: Described| {
+        let mut batch = Batch::new(Lent::of(&floor.bytes, &[], &[]));
         batch.make(Call::Clear);
+        let asked = match refusal(&floor.bytes) {
+            SUCCESS => places::NUMBERS * broken_places(&floor.bytes).len(),
+            _ => 0,
+        };
+        for length in [asked, asked + 2, asked.saturating_sub(1)] {
+            batch.make(Call::Places(vec![9; length]));
+        }
         batch
     };
-    floors.map(|floor| batch(floor.bytes)).collect()
+    floors.into_iter().map(batch).collect()
 }
 
 fn of_query(query: reference::steel::Query) -> Call {
@@ -65,7 +77,7 @@ pub fn batches() -> Vec<Batch> {
     let runs = runs::all().into_iter().map(of_run);
     cases
         .chain(runs)
-        .chain(of_singles())
+        .chain(of_broken())
         .chain([queries_alone])
         .collect()
 }

@@ -1,6 +1,7 @@
 //! A few batches that are kept with the program, which is run on them wherever it is proved.
 
 use crate::stream::{Batch, Call, Lent};
+use cases::floors::all_broken::all_broken;
 use floor::{record, Floor};
 use gandhrumil::Query;
 use reference::floor_file::sizes;
@@ -111,6 +112,7 @@ fn refused_floors() -> [Batch; 3] {
         Call::Change(vec![]),
         Call::Panel(0, 0),
         Call::Clear,
+        Call::Places(vec![]),
     ];
     let mut refused = [
         batch(no_floor, &on_no_floor),
@@ -134,8 +136,15 @@ fn broken_in_one_place() -> [Batch; 3] {
         y_lines: vec![(300, 600); 4],
         ..Floor::clear(3, 3)
     };
-    [stray, thin(4_920), thin(4_900)]
-        .map(|floor| batch(Lent::of(&floor.bytes(), &[], &[]), &[Call::Clear]))
+    let asked = [Call::Clear, Call::Places(vec![9; 5])];
+    [stray, thin(4_920), thin(4_900)].map(|floor| batch(Lent::of(&floor.bytes(), &[], &[]), &asked))
+}
+
+/// Every limit at every place of 2 by 2 bays: 35 places, on a slice that lacks a number and on one with two too many.
+fn broken_everywhere() -> Batch {
+    let floor = all_broken(2, 2).bytes();
+    let asked = [139, 142].map(|length| Call::Places((1..=length).collect()));
+    batch(Lent::of(&floor, &[], &[]), &asked)
 }
 
 pub fn batches() -> Vec<Batch> {
@@ -143,6 +152,7 @@ pub fn batches() -> Vec<Batch> {
     let mut batches = vec![clear_floor(), wrong_numbers(), beams(), weak_edge()];
     batches.extend(refused_floors());
     batches.extend(broken_in_one_place());
+    batches.push(broken_everywhere());
     batches.push(batch(Lent::default(), &queries));
     batches
 }

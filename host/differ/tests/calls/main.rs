@@ -12,7 +12,10 @@ use recording::batches;
 use std::collections::BTreeSet;
 use std::fs;
 use std::path::{Path, PathBuf};
-use stream::{Batch, Call, Lent, LONGEST_CHANGE, LONGEST_FLOOR, LONGEST_GOVERNING, LONGEST_TABLE};
+use stream::{
+    Batch, Call, Lent, LONGEST_CHANGE, LONGEST_FLOOR, LONGEST_GOVERNING, LONGEST_PLACES,
+    LONGEST_TABLE,
+};
 
 fn stdin(batches: &[Batch]) -> Vec<u8> {
     batches.iter().flat_map(Batch::stdin).collect()
@@ -58,6 +61,10 @@ fn of_clear(call: &Call) -> bool {
     matches!(call, Call::Clear)
 }
 
+fn of_places(call: &Call) -> bool {
+    matches!(call, Call::Places(_))
+}
+
 fn of_steel(call: &Call) -> bool {
     matches!(call, Call::Steel(_))
 }
@@ -68,6 +75,7 @@ fn floors_and_panels() {
     assert_eq!(refusals(&batches, opening), (0..=8).chain([13]).collect());
     assert!(refusals(&batches, of_panel).contains(&10));
     assert_eq!(refusals(&batches, of_clear), (0..=7).collect());
+    assert_eq!(refusals(&batches, of_places), (0..=7).chain([25]).collect());
     compare(&batches);
 }
 
@@ -92,6 +100,7 @@ fn what_is_described() {
     assert_eq!(refusals(&batches, opening), (0..=8).chain([13]).collect());
     assert_eq!(refusals(&batches, changing), (0..=9).chain([13]).collect());
     assert_eq!(refusals(&batches, of_clear), (0..=7).collect());
+    assert_eq!(refusals(&batches, of_places), (0..=7).chain([25]).collect());
     compare(&batches);
 }
 
@@ -121,6 +130,7 @@ fn lengths_to_the_end_of_the_buffers() {
         &[9; LONGEST_GOVERNING],
     ));
     batch.make(Call::Change(vec![9; LONGEST_CHANGE]));
+    batch.make(Call::Places(vec![6; LONGEST_PLACES]));
     batch.show();
     compare(&[batch]);
     for stopped in [
@@ -128,6 +138,7 @@ fn lengths_to_the_end_of_the_buffers() {
         words(&[0, LONGEST_TABLE + 1]),
         words(&[0, 0, LONGEST_GOVERNING + 1]),
         words(&[0, 0, 0, 1, 2, LONGEST_CHANGE + 1]),
+        words(&[0, 0, 0, 1, 7, LONGEST_PLACES + 1]),
         words(&[usize::MAX]),
     ] {
         let stdin = [stopped, next_batch()].concat();
@@ -138,7 +149,7 @@ fn lengths_to_the_end_of_the_buffers() {
 /// At a batch without calls and at words that are no call. An input that ends goes on with zeros.
 #[test]
 fn where_it_stops() {
-    for stopped in [[0, 0, 0, 0, 0], [0, 0, 0, 1, 0], [0, 0, 0, 1, 7]] {
+    for stopped in [[0, 0, 0, 0, 0], [0, 0, 0, 1, 0], [0, 0, 0, 1, 8]] {
         let stdin = [words(&stopped), next_batch()].concat();
         assert_eq!(printed("calls", &stdin), "");
     }

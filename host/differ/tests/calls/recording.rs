@@ -16,6 +16,7 @@ const RECORDING: Calls = Calls {
     change,
     panel,
     clear,
+    places,
     steel,
 };
 
@@ -104,6 +105,14 @@ fn clear(floor: &[u8]) -> Answer {
         |batch| batch.left.floor == floor,
         || Batch::new(Lent::of(floor, &[], &[])),
         |batch| batch.make(Call::Clear),
+    )
+}
+
+fn places(floor: &[u8], slice: &mut [u32]) -> Answer {
+    in_batch(
+        |batch| batch.left.floor == floor,
+        || Batch::new(Lent::of(floor, &[], &[])),
+        |batch| batch.make_places(slice),
     )
 }
 

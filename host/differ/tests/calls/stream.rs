@@ -1,13 +1,14 @@
 //! Batches of calls as the program reads them (`crates/calls/src/main.rt` has the form), with the lines that it has to print.
 
 use gandhrumil::{Answer, Query};
-use reference::{clear, governing, held, opening, panel, span, steel};
+use reference::{clear, governing, held, opening, panel, places, span, steel};
 
 /// What the program's buffers have room for.
 pub const LONGEST_FLOOR: usize = 4096;
 pub const LONGEST_TABLE: usize = 320 * span::NUMBERS;
 pub const LONGEST_GOVERNING: usize = 346 * governing::NUMBERS;
 pub const LONGEST_CHANGE: usize = 64;
+pub const LONGEST_PLACES: usize = 803 * places::NUMBERS;
 
 #[derive(Clone, Debug)]
 pub enum Call {
@@ -17,6 +18,8 @@ pub enum Call {
     Steel(Query),
     Show,
     Clear,
+    /// On a slice of these numbers, all of which are printed as they are left.
+    Places(Vec<u32>),
 }
 
 /// A call with the right lines.
@@ -78,6 +81,7 @@ impl Call {
             Call::Steel(Query { m, b, t, d, fc, fy }) => (4, wide(&[*m, *b, *t, *d, *fc, *fy])),
             Call::Show => (5, Vec::new()),
             Call::Clear => (6, Vec::new()),
+            Call::Places(slice) => (7, counted(slice)),
         };
         [&word(number), &rest[..]].concat()
     }
@@ -116,7 +120,7 @@ impl Batch {
             table,
             governing,
         } = &mut self.left;
-        let (refused, value) = match &call {
+        let answered = match &call {
             Call::Open => opening::open(floor, table, governing),
             Call::Change(bytes) => held::change(floor, table, governing, bytes),
             Call::Panel(x, y) => panel::panel(floor, (*x).into(), (*y).into()),
@@ -125,9 +129,23 @@ impl Batch {
                 steel::answer(steel::Query::of(numbers))
             }
             Call::Clear => clear::clear(floor),
+            Call::Places(slice) => return self.make_places(&mut slice.clone()),
             Call::Show => panic!("show answers nothing"),
         };
-        let lines = vec![format!("{refused} {value}")];
+        self.answered(call, answered, &[])
+    }
+
+    /// Leaves the slice as the call does.
+    pub fn make_places(&mut self, slice: &mut [u32]) -> Answer {
+        let call = Call::Places(slice.to_vec());
+        let answered = places::places(&self.left.floor, slice);
+        self.answered(call, answered, slice)
+    }
+
+    /// The answer's line, then the numbers that are printed after it.
+    fn answered(&mut self, call: Call, (refused, value): (u128, u128), numbers: &[u32]) -> Answer {
+        let mut lines = vec![format!("{refused} {value}")];
+        lines.extend(numbers.iter().map(ToString::to_string));
         self.made.push(Made { call, lines });
         Answer {
             refusal: u32::try_from(refused).unwrap(),

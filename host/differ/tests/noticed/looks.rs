@@ -1,6 +1,7 @@
-//! Libraries that say yes because they do not look at some places (02, Four).
+//! Libraries that do not look at some places: they say yes (02, Four), and list fewer (beyond 02).
 
-use crate::clear::{answer, asked};
+use crate::clear::{self, answer};
+use crate::places::{self, with_list};
 use crate::{assert_noticed, noticed_in, SINGLES};
 use cases::places::{broken, Along, Broken, Place};
 use differ::job::{Calls, LIBRARY};
@@ -35,8 +36,13 @@ impl Wrong {
 /// One test tries one after another.
 static WRONG: Mutex<Option<Wrong>> = Mutex::new(None);
 
-const CALLS: Calls = Calls {
+const SAYS_YES: Calls = Calls {
     clear: clear_of_what_is_seen,
+    ..LIBRARY
+};
+
+const LISTS_FEWER: Calls = Calls {
+    places: places_that_are_seen,
     ..LIBRARY
 };
 
@@ -51,6 +57,16 @@ fn clear_of_what_is_seen(floor: &[u8]) -> Answer {
         }
         refused => refused,
     }
+}
+
+/// The right library, but that it lists the places that it looks at.
+fn places_that_are_seen(floor: &[u8], lent: &mut [u32]) -> Answer {
+    let wrong = WRONG.lock().unwrap().expect("a wrong library");
+    with_list(floor, lent, |_| {
+        let places = broken(floor).into_iter();
+        let seen = places.filter(|place| wrong.looks_at(place, floor));
+        seen.map(|place| place.listed().numbers()).collect()
+    })
 }
 
 /// All that is no panel, and the panels that are meant, by x bay and y bay.
@@ -155,15 +171,18 @@ fn wrong_about(limit: u128, layout: Layout) -> Vec<Wrong> {
     looks.map(wrong).collect()
 }
 
-const WORDS: &str = "clear: the library answers refusal 0 and 1, right is refusal 0 and 0";
+const YES: &str = "clear: the library answers refusal 0 and 1, right is refusal 0 and 0";
+const FEWER: &str = ": places, ";
 
 fn assert_noticed_in_singles() {
     let mut tried = 0;
     for layout in [Layout::Everywhere, Layout::OuterLinesOnly, Layout::NoBeams] {
         for wrong in LIMITS.iter().flat_map(|&limit| wrong_about(limit, layout)) {
             *WRONG.lock().unwrap() = Some(wrong);
-            let noticed = noticed_in(&SINGLES, CALLS, asked);
-            assert!(noticed.contains(WORDS), "{noticed}");
+            let noticed = noticed_in(&SINGLES, SAYS_YES, clear::asked);
+            assert!(noticed.contains(YES), "{noticed}");
+            let noticed = noticed_in(&SINGLES, LISTS_FEWER, places::asked);
+            assert!(noticed.contains(FEWER), "{noticed}");
             tried += 1;
         }
     }
@@ -182,7 +201,8 @@ fn assert_noticed_in_drawn_floors() {
             limits,
             layout,
         });
-        assert_noticed("floors", CALLS, WORDS);
+        assert_noticed("floors", SAYS_YES, YES);
+        assert_noticed("floors", LISTS_FEWER, FEWER);
     }
 }
 

@@ -6,6 +6,8 @@ mod equal;
 mod looks;
 mod openings;
 mod order;
+mod places;
+mod slices;
 mod stiffness;
 mod supports;
 mod weak;
@@ -22,7 +24,7 @@ use gandhrumil::{Answer, Query};
 use std::sync::LazyLock;
 
 const FEW: Amount = Amount {
-    floors: 400,
+    floors: 500,
     flipped: 0,
     changes: 2_000,
     queries: 2_000,
@@ -175,6 +177,11 @@ fn what_never_came_up() {
         "a damaged floor: Refused(13)",
         "a floor asked whether it is clear: NoByOnePlace(64)",
         "a floor asked whether it is clear: Refused(7)",
+        "a floor asked for its places: Several",
+        "a floor asked for its places: Refused(25)",
+        "a slice for places: a number short",
+        "a floor with several places of limit 8",
+        "a floor with one place of limit 64",
         "a panel query: refusal 10",
         "12 bays each way",
         "some choice of sides",

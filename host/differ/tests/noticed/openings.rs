@@ -80,7 +80,7 @@ fn wrong_openings() {
     let wrong: [(Open, &str); 6] = [
         (
             open_without_limit_32,
-            "the library answers refusal 0 and 0, right is refusal 0 and 32",
+            "opening: the library answers refusal 0 and ",
         ),
         (open_that_writes_past_the_table, "opening: table: at "),
         (open_that_writes_past_the_slice, "opening: governing: at "),

@@ -9,15 +9,16 @@
 
 /* Nothing can be read or written there. For uint32_t they are aligned, and misaligned in each of the three ways. */
 static const uintptr_t nowhere[] = { 0, 1, 2, 3, 64, UINTPTR_MAX - 3, UINTPTR_MAX };
-enum { PLACES = sizeof nowhere / sizeof *nowhere };
+enum { POINTERS = sizeof nowhere / sizeof *nowhere };
 
-/* 16 * (4 * 3 + 4 * 3) and 5 * (4 * 4 + 4 * 4), for 3 by 3 bays. */
-enum { TABLE_NUMBERS = 384, GOVERNING_NUMBERS = 160 };
+/* 16 * (4 * 3 + 4 * 3) and 5 * (4 * 4 + 4 * 4), for 3 by 3 bays; one place. */
+enum { TABLE_NUMBERS = 384, GOVERNING_NUMBERS = 160, PLACES_NUMBERS = 4 };
 
 typedef struct {
     floor_file floor;
     uint32_t table[TABLE_NUMBERS];
     uint32_t governing[GOVERNING_NUMBERS];
+    uint32_t places[PLACES_NUMBERS];
     uint8_t change[RECORD_BYTES];
 } buffers;
 
@@ -25,26 +26,28 @@ static buffers lent, before;
 static int compared, wrong;
 
 /* A set of pointers. */
-enum { FLOOR = 1, TABLE = 2, GOVERNING = 4, CHANGE = 8, ALL = 15 };
+enum { FLOOR = 1, TABLE = 2, GOVERNING = 4, CHANGE = 8, ALL = 15, PLACES = 16 };
 
 typedef struct {
-    uint32_t held;   /* the number that the floor gets by itself */
-    int empty;       /* the pointers with length 0 */
-    uintptr_t place; /* what they are */
+    uint32_t held;     /* the number that the floor gets by itself; 25 of a floor with a place */
+    int empty;         /* the pointers with length 0 */
+    uintptr_t pointer; /* what they are */
 } attempt;
 
-/* The lent buffers: the floor, a table and governing moments of any numbers, and a change that is taken where nothing else is
- * amiss. */
-static void fill(uint32_t held)
+/* The lent buffers: the floor, a table, governing moments and places of any numbers, and a change that is taken where nothing else
+ * is amiss. */
+static void fill(floor_file floor)
 {
-    lent.floor = refused(held);
+    lent.floor = floor;
     memset(lent.table, 0x5a, sizeof lent.table);
     memset(lent.governing, 0x5a, sizeof lent.governing);
+    memset(lent.places, 0x5a, sizeof lent.places);
     write_record(lent.change, 3, 0, 6000, 3000, 0);
     memcpy(&before, &lent, sizeof lent);
 }
 
-/* The first that applies, in the order tried by opening and by a change: 1 to 7 on the held floor, 9, 8, 13. */
+/* The first that applies, in the order tried by opening and by a change: 1 to 7 on the held floor, 9, 8, 13.
+ * With no room for places a clear floor, which has none, is not refused. */
 static uint32_t first_refusal(attempt a)
 {
     if (a.empty & FLOOR)
@@ -53,7 +56,9 @@ static uint32_t first_refusal(attempt a)
         return a.held;
     if (a.empty & CHANGE)
         return 9;
-    return a.empty & TABLE ? 8 : 13;
+    if (a.empty & TABLE)
+        return 8;
+    return a.empty & GOVERNING ? 13 : 0;
 }
 
 /* The call has to give the first refusal, this value beside it, and write nothing. */
@@ -65,18 +70,18 @@ static void expect(const char *call, attempt a, gandhrumil_answer answer, uint32
     if (answer.refusal == refusal && answer.value == value && !written)
         return;
     wrong++;
-    printf("%s, floor of refusal %u, length 0 of%s%s%s%s at %#lx: %u %u%s, right is %u %u\n", call, (unsigned)a.held,
+    printf("%s, floor of refusal %u, length 0 of%s%s%s%s%s at %#lx: %u %u%s, right is %u %u\n", call, (unsigned)a.held,
            a.empty & FLOOR ? " floor" : "", a.empty & TABLE ? " table" : "", a.empty & GOVERNING ? " governing" : "",
-           a.empty & CHANGE ? " change" : "", (unsigned long)a.place, (unsigned)answer.refusal, (unsigned)answer.value,
-           written ? " and something written" : "", (unsigned)refusal, (unsigned)value);
+           a.empty & CHANGE ? " change" : "", a.empty & PLACES ? " places" : "", (unsigned long)a.pointer,
+           (unsigned)answer.refusal, (unsigned)answer.value, written ? " and something written" : "", (unsigned)refusal, (unsigned)value);
 }
 
 static void try_pointers(attempt a)
 {
-    uint8_t *floor = a.empty & FLOOR ? (uint8_t *)a.place : lent.floor.bytes;
-    uint32_t *table = a.empty & TABLE ? (uint32_t *)a.place : lent.table;
-    uint32_t *governing = a.empty & GOVERNING ? (uint32_t *)a.place : lent.governing;
-    uint8_t *change = a.empty & CHANGE ? (uint8_t *)a.place : lent.change;
+    uint8_t *floor = a.empty & FLOOR ? (uint8_t *)a.pointer : lent.floor.bytes;
+    uint32_t *table = a.empty & TABLE ? (uint32_t *)a.pointer : lent.table;
+    uint32_t *governing = a.empty & GOVERNING ? (uint32_t *)a.pointer : lent.governing;
+    uint8_t *change = a.empty & CHANGE ? (uint8_t *)a.pointer : lent.change;
     size_t floor_len = a.empty & FLOOR ? 0 : lent.floor.len;
     size_t table_len = a.empty & TABLE ? 0 : TABLE_NUMBERS;
     size_t governing_len = a.empty & GOVERNING ? 0 : GOVERNING_NUMBERS;
@@ -92,25 +97,48 @@ static void try_pointers(attempt a)
     }
 }
 
-static void try_places(uint32_t held, int empty)
+static void try_places(attempt a)
 {
-    for (int i = 0; i < PLACES; i++) {
+    uint8_t *floor = a.empty & FLOOR ? (uint8_t *)a.pointer : lent.floor.bytes;
+    uint32_t *places = a.empty & PLACES ? (uint32_t *)a.pointer : lent.places;
+    size_t floor_len = a.empty & FLOOR ? 0 : lent.floor.len;
+    size_t places_len = a.empty & PLACES ? 0 : PLACES_NUMBERS;
+    expect("places", a, gandhrumil_places(floor, floor_len, places, places_len), 0);
+}
+
+static void try_everywhere(void (*attempted)(attempt), uint32_t held, int empty)
+{
+    for (int i = 0; i < POINTERS; i++) {
         attempt a = { held, empty, nowhere[i] };
-        try_pointers(a);
+        attempted(a);
     }
 }
 
 static void try_sets(uint32_t held)
 {
-    fill(held);
+    fill(refused(held));
     for (int empty = 1; empty <= ALL; empty++)
-        try_places(held, empty);
+        try_everywhere(try_pointers, held, empty);
+    try_everywhere(try_places, held, FLOOR);
+    try_everywhere(try_places, held, PLACES);
+    try_everywhere(try_places, held, FLOOR | PLACES);
+}
+
+/* Too much live load is one place. */
+static void try_short_places(void)
+{
+    floor_file loaded = refused(0);
+    set(&loaded, 2, 5000, 10001, 0);
+    fill(loaded);
+    try_everywhere(try_places, 25, PLACES);
+    try_everywhere(try_places, 25, FLOOR | PLACES);
 }
 
 int main(void)
 {
     for (uint32_t held = 0; held <= 7; held++)
         try_sets(held);
+    try_short_places();
     printf("%d answers compared, %d wrong\n", compared, wrong);
     return wrong != 0;
 }

@@ -1,4 +1,4 @@
-/* The five calls on what 01 gives an answer for, and governing moments worked out by hand. C99 that is C++ too. */
+/* The six calls on what 01 gives an answer for, and governing moments worked out by hand. C99 that is C++ too. */
 #include "gandhrumil.h"
 
 #include "floor.h"
@@ -39,6 +39,27 @@ static void expect_five(const char *what, const uint32_t *found, const uint32_t 
     printf("%s: %u %u %u %u %u, right is %u %u %u %u %u\n", what, (unsigned)found[0], (unsigned)found[1], (unsigned)found[2],
            (unsigned)found[3], (unsigned)found[4], (unsigned)right[0], (unsigned)right[1], (unsigned)right[2],
            (unsigned)right[3], (unsigned)right[4]);
+}
+
+static void expect_four(const char *what, const uint32_t *found, const uint32_t *right)
+{
+    if (memcmp(found, right, 4 * sizeof *found) == 0)
+        return;
+    wrong++;
+    printf("%s: %u %u %u %u, right is %u %u %u %u\n", what, (unsigned)found[0], (unsigned)found[1], (unsigned)found[2],
+           (unsigned)found[3], (unsigned)right[0], (unsigned)right[1], (unsigned)right[2], (unsigned)right[3]);
+}
+
+/* Nothing is written there. */
+static void expect_left(const char *what, const uint32_t *numbers, int count, uint32_t before)
+{
+    int left = 0;
+    for (int i = 0; i < count; i++)
+        left += numbers[i] == before;
+    if (left == count)
+        return;
+    wrong++;
+    printf("%s: %d numbers of %d are left alone\n", what, left, count);
 }
 
 /* 01's example of the printing program, which prints `0 1`. */
@@ -148,11 +169,99 @@ static void clear_or_not(void)
     }
 }
 
+/* The floor's places are these, each limit, direction, i, j. A slice with just room for them is written and not the number past it; one that is
+ * a number shorter is refused and left alone. */
+static void expect_places(const char *what, floor_file floor, const uint32_t (*right)[4], uint32_t count)
+{
+    static uint32_t found[GANDHRUMIL_PLACES_LEN + 1];
+    const int numbers = 4 * (int)count;
+    spoil(found, numbers);
+    expect(what, gandhrumil_places(floor.bytes, floor.len, found, 4 * count - 1), 25, 0);
+    expect_left(what, found, numbers, UINT32_MAX);
+    expect(what, gandhrumil_places(floor.bytes, floor.len, found, 4 * count), 0, count);
+    for (uint32_t i = 0; i < count; i++)
+        expect_four(what, found + 4 * i, right[i]);
+    expect_left(what, found + numbers, 1, 7);
+}
+
+/* One record of 3 by 3 bays of 6,000 without beams, past a limit. */
+static floor_file past(size_t record, uint32_t a, uint32_t b, uint32_t c)
+{
+    floor_file floor = square(3, NO_BEAMS);
+    set(&floor, record, a, b, c);
+    return floor;
+}
+
+/* At 01's figures: one bay each way; a span of 2,980 in panels of 6,000, which differs from both its neighbours too; one of 3,980, which
+ * only does that; the last column off along y; the live load; and a slab of 186, of which the eight outer panels ask for 187, the inner
+ * one for 5600/33 = 169.7. */
+static void places_by_limit(void)
+{
+    static const uint32_t few[2][4] = { { 1, 0, 0, 0 }, { 1, 1, 0, 0 } };
+    static const uint32_t slender[5][4] = { { 2, 0, 1, 0 }, { 2, 0, 1, 1 }, { 2, 0, 1, 2 }, { 4, 0, 0, 0 }, { 4, 0, 1, 0 } };
+    static const uint32_t uneven[2][4] = { { 4, 1, 0, 0 }, { 4, 1, 0, 1 } };
+    static const uint32_t astray[1][4] = { { 8, 1, 3, 3 } };
+    static const uint32_t heavy[1][4] = { { 16, 0, 0, 0 } };
+    static const uint32_t thin[8][4] = { { 64, 0, 0, 0 }, { 64, 0, 1, 0 }, { 64, 0, 2, 0 }, { 64, 0, 0, 1 },
+                                         { 64, 0, 2, 1 }, { 64, 0, 0, 2 }, { 64, 0, 1, 2 }, { 64, 0, 2, 2 } };
+    expect_places("places, one bay", one_bay(), few, 2);
+    expect_places("places, x span 1 of 2,980", past(5, 2980, 0, 0), slender, 5);
+    expect_places("places, y span 1 of 3,980", past(8, 3980, 0, 0), uneven, 2);
+    expect_places("places, last column", past(33, 0, 601, 0), astray, 1);
+    expect_places("places, loads", past(2, 5000, 10001, 0), heavy, 1);
+    expect_places("places, thickness", past(0, 3, 3, 186), thin, 8);
+}
+
+/* Two bays each way with every limit broken in every place. */
+static void places_of_all_limits(void)
+{
+    static const uint32_t all[35][4] = {
+        { 1, 0, 0, 0 },  { 1, 1, 0, 0 },                                     /* directions */
+        { 2, 0, 0, 0 },  { 2, 0, 1, 0 },  { 2, 0, 0, 1 },  { 2, 0, 1, 1 },   /* panels */
+        { 4, 0, 0, 0 },  { 4, 1, 0, 0 },                                     /* neighbours */
+        { 8, 0, 0, 0 },  { 8, 0, 1, 0 },  { 8, 0, 2, 0 },                    /* columns off along x */
+        { 8, 0, 0, 1 },  { 8, 0, 1, 1 },  { 8, 0, 2, 1 },
+        { 8, 0, 0, 2 },  { 8, 0, 1, 2 },  { 8, 0, 2, 2 },
+        { 8, 1, 0, 0 },  { 8, 1, 1, 0 },  { 8, 1, 2, 0 },                    /* and along y */
+        { 8, 1, 0, 1 },  { 8, 1, 1, 1 },  { 8, 1, 2, 1 },
+        { 8, 1, 0, 2 },  { 8, 1, 1, 2 },  { 8, 1, 2, 2 },
+        { 16, 0, 0, 0 },                                                     /* the floor */
+        { 32, 0, 0, 0 }, { 32, 0, 1, 0 }, { 32, 0, 0, 1 }, { 32, 0, 1, 1 },  /* panels */
+        { 64, 0, 0, 0 }, { 64, 0, 1, 0 }, { 64, 0, 0, 1 }, { 64, 0, 1, 1 },
+    };
+    expect_places("places, all", broken(2), all, 35);
+}
+
+/* Twelve bays each way have the most: 144 panels for each of three limits, 11 neighbours and 169 columns for each direction, the loads. */
+static void most_places(void)
+{
+    static uint32_t places[GANDHRUMIL_PLACES_LEN];
+    floor_file floor = broken(12);
+    expect("places, most", gandhrumil_places(floor.bytes, floor.len, places, GANDHRUMIL_PLACES_LEN), 0, 793);
+    expect("places, no room", gandhrumil_places(floor.bytes, floor.len, places, GANDHRUMIL_PLACES_LEN - 1), 25, 0);
+}
+
+/* A clear floor has none, and a refused one its number. */
+static void no_places(void)
+{
+    uint32_t places[4] = { 7, 7, 7, 7 };
+    for (uint32_t number = 0; number <= 7; number++) {
+        floor_file floor = refused(number);
+        expect("places, none", gandhrumil_places(floor.bytes, floor.len, places, 4), number, 0);
+        expect("places, none and no room", gandhrumil_places(floor.bytes, floor.len, places, 0), number, 0);
+    }
+    expect_left("places, none", places, 4, 7);
+}
+
 int main(void)
 {
     floors();
     weak_edges();
     clear_or_not();
+    places_by_limit();
+    places_of_all_limits();
+    most_places();
+    no_places();
     governing_moments();
     expect("steel", gandhrumil_steel(2195000, 1000, 150, 124, 30, 420), 0, 484);
     expect("steel for no moment", gandhrumil_steel(0, 1000, 150, 124, 30, 420), 0, 270);

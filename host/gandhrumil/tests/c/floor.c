@@ -31,10 +31,10 @@ static void append(floor_file *floor, uint32_t kind, uint32_t index, uint32_t a,
     floor->len += RECORD_BYTES;
 }
 
-static void append_alike(floor_file *floor, uint32_t kind, uint32_t count, uint32_t a)
+static void append_alike(floor_file *floor, uint32_t kind, uint32_t count, uint32_t a, uint32_t b)
 {
     for (uint32_t index = 0; index < count; index++)
-        append(floor, kind, index, a, 0, 0);
+        append(floor, kind, index, a, b, 0);
 }
 
 static void append_beams(floor_file *floor, uint32_t kind, uint32_t lines, layout beams)
@@ -54,11 +54,34 @@ floor_file square(uint32_t bays, layout beams)
     append(&floor, 2, 0, 30, 420, 0);
     append(&floor, 3, 0, 5000, 2000, 0);
     append(&floor, 4, 0, 400, 400, 0);
-    append_alike(&floor, 5, bays, 6000);
-    append_alike(&floor, 6, bays, 6000);
+    append_alike(&floor, 5, bays, 6000, 0);
+    append_alike(&floor, 6, bays, 6000, 0);
     append_beams(&floor, 7, bays + 1, beams);
     append_beams(&floor, 8, bays + 1, beams);
-    append_alike(&floor, 9, (bays + 1) * (bays + 1), 0);
+    append_alike(&floor, 9, (bays + 1) * (bays + 1), 0, 0);
+    return floor;
+}
+
+/* In turn one and the other, from the first. */
+static void append_in_turn(floor_file *floor, uint32_t kind, uint32_t count, uint32_t one, uint32_t other)
+{
+    for (uint32_t index = 0; index < count; index++)
+        append(floor, kind, index, index % 2 == 0 ? one : other, 0, 0);
+}
+
+floor_file broken(uint32_t bays)
+{
+    floor_file floor;
+    memset(&floor, 0, sizeof floor);
+    append(&floor, 1, 0, bays, bays, 100);
+    append(&floor, 2, 0, 30, 420, 0);
+    append(&floor, 3, 0, 5000, 10001, 0);
+    append(&floor, 4, 0, 200, 200, 0);
+    append_in_turn(&floor, 5, bays, 3060, 4600);
+    append_in_turn(&floor, 6, bays, 1000, 1520);
+    append_alike(&floor, 7, bays + 1, 150, 101);
+    append_alike(&floor, 8, bays + 1, 200, 200);
+    append_alike(&floor, 9, (bays + 1) * (bays + 1), 461, 153);
     return floor;
 }
 

@@ -22,6 +22,11 @@ void write_record(uint8_t *record, uint32_t kind, uint32_t index, uint32_t a, ui
  * the slab of 200, and no other for more: from 3 bays on the floor is clear. */
 floor_file square(uint32_t bays, layout beams);
 
+/* The floor that breaks every limit in every place that it has: slender panels, neighbours that differ by more than a third, columns far off
+ * their lines both ways, more live load than allowed, and beams everywhere, those on x lines so weak and the slab of 100 so thin that each
+ * panel breaks 32 and 64. */
+floor_file broken(uint32_t bays);
+
 /* The floor with one record written anew; it keeps its kind and index. */
 void set(floor_file *floor, size_t record, uint32_t a, uint32_t b, uint32_t c);
 

@@ -13,6 +13,7 @@ enum { BAYS = 12, TABLE_NUMBERS = 4992, GOVERNING_NUMBERS = 1690 };
 
 static floor_file floor_lent;
 static uint32_t table[TABLE_NUMBERS], governing[GOVERNING_NUMBERS];
+static uint32_t places[GANDHRUMIL_PLACES_LEN];
 static uint8_t change[RECORD_BYTES];
 static gandhrumil_answer answer;
 static int wrong;
@@ -36,6 +37,16 @@ static void call_panel(void)
 static void call_clear(void)
 {
     answer = gandhrumil_clear(floor_lent.bytes, floor_lent.len);
+}
+
+static void call_places(void)
+{
+    answer = gandhrumil_places(floor_lent.bytes, floor_lent.len, places, GANDHRUMIL_PLACES_LEN);
+}
+
+static void call_places_short(void)
+{
+    answer = gandhrumil_places(floor_lent.bytes, floor_lent.len, places, GANDHRUMIL_PLACES_LEN - 1);
 }
 
 static void call_steel(void)
@@ -97,6 +108,10 @@ static void measure_layout(layout beams, uint32_t thickness)
     measure("clear, no, too much live load", call_clear, loaded, 0, 0);
     measure("clear, no, last column off", call_clear, off, 0, 0);
     measure("clear, refused 5", call_clear, late, 5, 0);
+    measure("places, none", call_places, clear, 0, 0);
+    measure("places, every panel too thin", call_places, thin, 0, BAYS * BAYS);
+    measure("places, last column off", call_places, off, 0, 1);
+    measure("places, refused 5", call_places, late, 5, 0);
     write_record(change, 3, 0, 6000, 3000, 0);
     measure("change, clear to clear", call_change, clear, 0, 0);
     measure("change, too thin before and after", call_change, thin, 0, 64);
@@ -117,6 +132,9 @@ int main(void)
     measure_layout(EDGE_BEAMS, 170);
     puts("beams everywhere");
     measure_layout(BEAMS_EVERYWHERE, 137);
+    puts("every limit broken in every place");
+    measure("places", call_places, broken(BAYS), 0, GANDHRUMIL_PLACES_LEN / 4);
+    measure("places, refused 25", call_places_short, broken(BAYS), 25, 0);
     puts("no floor");
     measure("steel", call_steel, floor_lent, 0, 484);
     return wrong != 0;

@@ -50,11 +50,11 @@ fn typed_floors() {
 }
 
 /// "equality always passes": a limit, a floor at it, and what takes it just past.
-type Edge = (u128, Floor, fn(&mut Floor));
+pub type Edge = (u128, Floor, fn(&mut Floor));
 
 /// "Neighbours 6,000 and 4,000 pass, 3,980 breaks. Offset 600 on 6,000 passes, 601 breaks. L = 2D passes."
 /// Of the others: 6,000 is twice 3,000; p = 5q; 5,600 less 200 is 30 times 180.
-fn edges() -> Vec<Edge> {
+pub fn edges() -> Vec<Edge> {
     let floor = || Floor::clear(3, 3);
     let twice = Floor {
         y_spans: vec![3_000; 3],

@@ -12,6 +12,7 @@ mod moments;
 mod named;
 mod opening;
 mod panel;
+mod places;
 mod ranges;
 mod sheet;
 mod steel;

@@ -1,6 +1,7 @@
 //! `slab clear`: yes or no, in one line.
 
-use super::{arguments, Command, Ended, Status};
+use super::arguments::Arguments;
+use super::{Command, Ended, Status};
 use crate::given::Given;
 use crate::judge::{clear, Clear};
 use crate::{output, say};
@@ -23,7 +24,7 @@ Exit status: 0 clear, 1 not clear, 2 refused, 3 where there is no floor to ask a
 };
 
 fn run(words: &[OsString]) -> Ended {
-    let given = Given::read(arguments::input(&COMMAND, words)?)?;
+    let given = Given::read(Arguments::read(&COMMAND, words)?.input)?;
     let answer = clear(&given.file);
     let line = format!("{}: {}", given.name, say::clear::line(&answer));
     output::print(line.as_bytes())?;

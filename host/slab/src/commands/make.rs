@@ -1,6 +1,7 @@
 //! `slab make`: a text into a floor file.
 
-use super::{arguments, Command, Ended, Status};
+use super::arguments::Arguments;
+use super::{Command, Ended, Status};
 use crate::input::Input;
 use crate::judge::refusal;
 use crate::output::{self, complain};
@@ -16,7 +17,7 @@ pub const COMMAND: Command = Command {
 };
 
 fn run(words: &[OsString]) -> Ended {
-    let arguments = arguments::input_and_output(&COMMAND, words)?;
+    let arguments = Arguments::read(&COMMAND, words)?;
     if output::is_terminal(arguments.output) {
         return Err("a floor file is bytes and no sight for a terminal: \
                     expected -o and a file's name, or a pipe"

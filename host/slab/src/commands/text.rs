@@ -1,6 +1,7 @@
 //! `slab text`: a floor file into a text.
 
-use super::{arguments, Command, Ended, Status};
+use super::arguments::Arguments;
+use super::{Command, Ended, Status};
 use crate::input::Input;
 use crate::judge::refusal;
 use crate::output::{self, complain};
@@ -22,7 +23,7 @@ and all. Of a file that is not laid out as a floor it says the refusal, and ends
 };
 
 fn run(words: &[OsString]) -> Ended {
-    let arguments = arguments::input_and_output(&COMMAND, words)?;
+    let arguments = Arguments::read(&COMMAND, words)?;
     let input = Input::read(arguments.input)?;
     if let Some(floor) = Floor::of(input.floor()) {
         output::write(arguments.output, text::write::text(&floor).as_bytes())?;

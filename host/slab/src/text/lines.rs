@@ -1,23 +1,9 @@
 //! Which lines of the floor a beam is given to.
 
 use super::words::Words;
+use crate::way::Way;
 use std::iter::StepBy;
 use std::ops::Range;
-
-#[derive(Clone, Copy, Debug, PartialEq, Eq)]
-pub enum Way {
-    X,
-    Y,
-}
-
-impl Way {
-    pub fn name(self) -> &'static str {
-        match self {
-            Way::X => "x",
-            Way::Y => "y",
-        }
-    }
-}
 
 #[derive(Clone, Copy)]
 pub enum Lines {

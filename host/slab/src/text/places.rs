@@ -1,7 +1,8 @@
 //! Beams and offsets put in their places, once the spans say how many lines there are.
 
 use super::faults::Fault;
-use super::lines::{Lines, Way};
+use super::lines::Lines;
+use crate::way::Way;
 
 /// Two numbers that a line of the text gives to a place of the floor.
 pub struct Pair<P> {

@@ -1,5 +1,6 @@
 //! What `check` says of every floor, held against the independent implementation.
 
+use crate::page::limits;
 use crate::run::slab_on;
 use cases::floors::{self, Described};
 use floor::Floor;
@@ -17,12 +18,10 @@ pub fn inputs() -> Vec<Described> {
     inputs
 }
 
-/// The numbers of the lines of limits, added up.
+/// The numbers of the limits, added up.
 fn verdict_said(words: &str) -> u128 {
-    let lines = words.lines().filter(|line| line.starts_with("  "));
-    let limits = lines.filter(|line| !line.contains(" bay "));
-    let number = |line: &str| line.split_whitespace().next()?.parse().ok();
-    limits.map(|line| number(line).unwrap_or(0)).sum()
+    let limits = limits(words).into_iter();
+    limits.map(|(number, _)| u128::from(number)).sum()
 }
 
 /// The plan's rows from the south, a star where a panel asks for more than the slab.

@@ -62,13 +62,70 @@ fn check_shows_no_moment() {
     }
 }
 
-/// The README shows it.
+/// With `--all` too, of a floor that breaks nothing.
+#[test]
+fn nothing_is_listed_of_a_clear_floor() {
+    let (some, all) = (
+        slab_on(&["check", "-"], &floor()),
+        slab_on(&["check", "--all", "-"], &floor()),
+    );
+    assert_eq!((some.status, some.words()), (0, all.words()));
+}
+
+fn in_the_readme(words: &str) {
+    let readme = fs::read_to_string(root("README.md")).unwrap();
+    let shown: Vec<String> = words.lines().map(|line| format!("    {line}")).collect();
+    let shown: Vec<&str> = shown.iter().map(|line| line.trim_end()).collect();
+    assert!(readme.contains(&shown.join("\n")), "{words}");
+}
+
 #[test]
 fn check_as_the_readme_has_it() {
-    let readme = fs::read_to_string(root("README.md")).unwrap();
     let mut command = command(&["check", "example/garage.floor"]);
     let said = Ran::from(command.current_dir(root("")).output().unwrap());
-    for line in said.words().lines().filter(|line| !line.is_empty()) {
-        assert!(readme.contains(&format!("\n    {line}\n")), "{line}");
+    in_the_readme(said.words());
+}
+
+/// "Move a column line": 9900 − 4800 is more than a third of 9900.
+#[test]
+fn the_moved_garage_as_the_readme_has_it() {
+    let path = scratch("moved.txt");
+    let text = String::from_utf8(text()).unwrap();
+    let moved = text.replace(
+        "x spans 6600 7200 7500 7200 6600",
+        "x spans 6600 7200 9900 4800 6600",
+    );
+    fs::write(&path, moved).unwrap();
+    let mut command = command(&["check", "moved.txt"]);
+    let said = Ran::from(
+        command
+            .current_dir(path.parent().unwrap())
+            .output()
+            .unwrap(),
+    );
+    assert_eq!(said.status, 1);
+    in_the_readme(said.words());
+}
+
+#[test]
+fn the_thin_garage_as_the_readme_has_it() {
+    let text = String::from_utf8(text()).unwrap();
+    let thin = text.replace("slab 200", "slab 150");
+    let said = slab_on(&["check", "-"], thin.as_bytes());
+    let lines: Vec<&str> = said.words().lines().collect();
+    assert_eq!(lines[1], "not clear, verdict 64:");
+    in_the_readme(&lines[2..5].join("\n"));
+}
+
+/// The same places of a floor file and of its text.
+#[test]
+fn places_of_either_form() {
+    let text = String::from_utf8(text()).unwrap();
+    let moved = text.replace("7500 7200", "9900 4800").into_bytes();
+    let file = slab_on(&["make", "-"], &moved).stdout;
+    for words in [&["check", "-"][..], &["check", "--all", "-"]] {
+        let (of_text, of_file) = (slab_on(words, &moved), slab_on(words, &file));
+        assert_eq!((of_text.status, of_file.status), (1, 1));
+        assert_eq!(of_text.words(), of_file.words());
     }
 }

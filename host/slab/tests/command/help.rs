@@ -39,6 +39,18 @@ fn each_command_in_full() {
     }
 }
 
+#[test]
+fn check_and_its_option() {
+    let asked = slab(&["help", "check"]);
+    assert!(asked.words().starts_with("slab check [--all] FLOOR\n"));
+    assert!(asked
+        .words()
+        .contains("With --all each place has its own line."));
+    assert!(slab(&["help"])
+        .words()
+        .contains("\n  slab check [--all] FLOOR "));
+}
+
 /// The lines that `slab help make` shows are a text.
 #[test]
 fn the_guide_is_true() {
