@@ -10,4 +10,5 @@ mod picks;
 mod places;
 mod records;
 pub mod refusal;
+mod sentences;
 pub mod verdict;
