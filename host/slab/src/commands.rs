@@ -22,6 +22,13 @@ pub enum Status {
 impl Status {
     /// Done as asked, by a command that judges nothing.
     pub const DONE: Status = Status::Clear;
+
+    pub fn of(verdict: u32) -> Status {
+        match verdict {
+            0 => Status::Clear,
+            _ => Status::NotClear,
+        }
+    }
 }
 
 /// A status, or what could not be used, in words.
