@@ -5,6 +5,7 @@ pub mod check;
 pub mod clear;
 pub mod help;
 pub mod make;
+pub mod sheet;
 pub mod text;
 
 use std::ffi::OsString;
@@ -45,11 +46,12 @@ pub struct Command {
     pub run: fn(&[OsString]) -> Ended,
 }
 
-pub const COMMANDS: [&Command; 5] = [
+pub const COMMANDS: [&Command; 6] = [
     &make::COMMAND,
     &text::COMMAND,
     &check::COMMAND,
     &clear::COMMAND,
+    &sheet::COMMAND,
     &help::COMMAND,
 ];
 

@@ -3,7 +3,7 @@
 pub mod clear;
 mod culprits;
 mod folds;
-mod limits;
+pub mod limits;
 mod numbers;
 mod panels;
 mod picks;
