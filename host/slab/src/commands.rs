@@ -1,6 +1,7 @@
 //! The commands: one file and one row each.
 
 pub mod arguments;
+pub mod change;
 pub mod check;
 pub mod clear;
 pub mod help;
@@ -46,11 +47,12 @@ pub struct Command {
     pub run: fn(&[OsString]) -> Ended,
 }
 
-pub const COMMANDS: [&Command; 6] = [
+pub const COMMANDS: [&Command; 7] = [
     &make::COMMAND,
     &text::COMMAND,
     &check::COMMAND,
     &clear::COMMAND,
+    &change::COMMAND,
     &sheet::COMMAND,
     &help::COMMAND,
 ];

@@ -34,6 +34,12 @@ pub fn no_terminal(path: Option<&OsStr>) -> Result<(), String> {
     Ok(())
 }
 
+/// To standard error, where standard output is taken. No trouble if nobody listens.
+pub fn remark(bytes: &[u8]) -> Result<(), String> {
+    let _ = io::stderr().write_all(bytes);
+    Ok(())
+}
+
 /// To standard error, if anybody listens.
 pub fn complain(words: &str) {
     let _ = writeln!(io::stderr(), "slab: {words}");

@@ -1,5 +1,6 @@
 //! What the library answers, in words that are as true as 01: equality always passes.
 
+pub mod change;
 pub mod clear;
 mod culprits;
 mod folds;
