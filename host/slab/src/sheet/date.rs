@@ -31,7 +31,8 @@ fn days_of_year(year: u64) -> u64 {
 }
 
 fn days_of_month(year: u64, month: usize) -> u64 {
-    let leap = year % 4 == 0 && (year % 100 != 0 || year % 400 == 0);
+    let every = |years: u64| year.is_multiple_of(years);
+    let leap = every(4) && (!every(100) || every(400));
     let february = if leap { 29 } else { 28 };
     [31, february, 31, 30, 31, 30, 31, 31, 30, 31, 30, 31][month]
 }

@@ -26,7 +26,7 @@ fn an_empty_file() {
 #[test]
 fn a_directory_and_nothing_at_all() {
     for path in [root("example"), root("example/no.floor")] {
-        for name in ["check", "clear", "text", "make"] {
+        for name in ["check", "clear", "text", "make", "sheet"] {
             let ran = slab(&[name, path.to_str().unwrap()]);
             assert_eq!((ran.status, ran.stdout.len()), (3, 0));
             assert!(
@@ -85,7 +85,13 @@ fn a_huge_file() {
             "{}",
             clear.words()
         );
-        assert_eq!(slab(&["text", path]).status, 2);
+        for words in [
+            &["text", path][..],
+            &["sheet", path],
+            &["change", path, "dead 7200"],
+        ] {
+            assert_eq!(slab(words).status, 2, "{words:?}");
+        }
         let make = slab(&["make", path]);
         assert_eq!(make.status, 3);
         assert!(make
@@ -118,6 +124,7 @@ fn broken_pipes() {
     for (name, path) in [
         ("check", &floor),
         ("clear", &floor),
+        ("sheet", &floor),
         ("text", &floor),
         ("make", &text),
         ("help", &"check".into()),

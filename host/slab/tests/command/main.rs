@@ -1,5 +1,7 @@
 //! The command, by what it prints and how it ends, and the text form beneath it.
 
+mod change;
+mod change_runs;
 mod check;
 mod clear;
 mod culprits;

@@ -10,7 +10,10 @@ pub fn sheet(options: &[&str], file: &[u8]) -> Ran {
 
 /// As it has to be written, by another way than the command's.
 pub fn kn_m(n_cm: u32) -> String {
-    let up = (u64::from(n_cm) + 999) / 1_000;
+    let up = match n_cm % 1_000 {
+        0 => n_cm / 1_000,
+        _ => n_cm / 1_000 + 1,
+    };
     let digits = format!("{up:03}");
     let (whole, hundredths) = digits.split_at(digits.len() - 2);
     format!("{whole}.{hundredths}")
