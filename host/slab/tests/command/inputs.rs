@@ -121,21 +121,23 @@ fn a_floor_file_in_place_of_a_text() {
 #[test]
 fn broken_pipes() {
     let (floor, text) = (root("example/garage.floor"), root("example/garage.txt"));
-    for (name, path) in [
-        ("check", &floor),
-        ("clear", &floor),
-        ("sheet", &floor),
-        ("text", &floor),
-        ("make", &text),
-        ("help", &"check".into()),
+    let (floor, text) = (floor.to_str().unwrap(), text.to_str().unwrap());
+    for words in [
+        &["check", floor][..],
+        &["clear", floor],
+        &["sheet", floor],
+        &["change", floor, "dead 7200"],
+        &["text", floor],
+        &["make", text],
+        &["help", "check"],
     ] {
-        let mut child = command(&[name, path.to_str().unwrap()])
+        let mut child = command(words)
             .stdin(Stdio::null())
             .stdout(gone())
             .stderr(gone())
             .spawn()
             .unwrap();
-        assert_eq!(child.wait().unwrap().code(), Some(0), "{name}");
+        assert_eq!(child.wait().unwrap().code(), Some(0), "{words:?}");
     }
     let mut child = command(&["chek"]).stderr(gone()).spawn().unwrap();
     assert_eq!(child.wait().unwrap().code(), Some(3));
