@@ -6,7 +6,7 @@
 mod frame;
 mod node;
 
-pub use node::{lacking, Lacking};
+pub use node::{can_be_tried, lacking, Lacking};
 
 use crate::job::Calls;
 use frame::{Asked, Call};

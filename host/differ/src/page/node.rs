@@ -32,6 +32,19 @@ pub fn lacking() -> Option<Lacking> {
     lacking_of(NODE, Path::new(MODULE))
 }
 
+/// Where node is lacking a test says so, past what cargo test holds back, and passes; the module must be there.
+pub fn can_be_tried() -> bool {
+    match lacking() {
+        None => true,
+        Some(Lacking::Node) => {
+            let words = Lacking::Node.words();
+            let _ = writeln!(io::stderr(), "{words}: the page's library was not tried");
+            false
+        }
+        Some(Lacking::Module) => panic!("{}", Lacking::Module.words()),
+    }
+}
+
 fn lacking_of(node: &str, module: &Path) -> Option<Lacking> {
     let version = Command::new(node).arg("--version").output();
     match version.is_ok_and(|printed| printed.status.success()) {
