@@ -6,7 +6,10 @@ import { Frames } from './frames.js';
 /** @typedef {import('../src/library.js').Answer} Answer */
 /** @typedef {import('./frames.js').Frame} Frame */
 
-/** By the numbers of `Call` in host/differ/src/page/frame.rs. @type {Record<number, (library: Library, frame: Frame) => Answer>} */
+/**
+ * By the numbers of `Call` in host/differ/src/page/frame.rs.
+ * @type {Record<number, (library: Library, frame: Frame) => Answer>}
+ */
 const CALLS = {
     1: (library, { floor, slices: [table, governing] }) => library.open(floor, table, governing),
     2: (library, { floor, slices: [table, governing], change }) => library.change(floor, table, governing, change),

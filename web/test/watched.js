@@ -9,12 +9,13 @@ export class Watched extends Library {
     /** @param {WebAssembly.Instance} instance */
     constructor(instance) {
         super(instance);
-        this.stackEnd = this.exports.__stack_pointer.value;
+        const stackEnd = this.exports.__stack_pointer.value;
+        this.stack = { start: stackEnd - STACK_BYTES, end: stackEnd };
         this.memory = Buffer.alloc(0);
         /** What the memory holds between two calls. */
         this.kept = Buffer.alloc(0);
-        /** @type {{start: number, end: number}[]} where a call may write, rising */
-        this.writable = [];
+        /** @type {{start: number, end: number}[]} where what is lent lies, above the stack and rising */
+        this.lent = [];
         this.keep();
     }
 
@@ -22,8 +23,7 @@ export class Watched extends Library {
     place(lent) {
         const starts = super.place(lent);
         this.keep();
-        const stack = { start: this.stackEnd - STACK_BYTES, end: this.stackEnd };
-        this.writable = [stack, ...lent.map((array, which) => ({ start: starts[which], end: starts[which] + array.byteLength }))];
+        this.lent = lent.map((array, which) => ({ start: starts[which], end: starts[which] + array.byteLength }));
         return starts;
     }
 
@@ -31,7 +31,7 @@ export class Watched extends Library {
     call(name, lent, numbers) {
         const answer = super.call(name, lent, numbers);
         this.look(name);
-        for (const { start, end } of this.writable) {
+        for (const { start, end } of this.lent) {
             this.kept.copy(this.memory, start, start, end);
         }
         return answer;
@@ -55,7 +55,7 @@ export class Watched extends Library {
     /** @param {string} name */
     look(name) {
         let from = 0;
-        for (const { start, end } of [...this.writable, { start: this.memory.length, end: 0 }]) {
+        for (const { start, end } of [this.stack, ...this.lent, { start: this.memory.length, end: 0 }]) {
             if (from > start) {
                 throw new Error(`gandhrumil_${name}: what is lent overlaps at ${start}`);
             }
@@ -76,6 +76,6 @@ export class Watched extends Library {
     }
 
     lentInWords() {
-        return this.writable.slice(1).map(({ start, end }) => `${start} to ${end}`).join(', ') || 'none';
+        return this.lent.map(({ start, end }) => `${start} to ${end}`).join(', ') || 'none';
     }
 }
