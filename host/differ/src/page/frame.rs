@@ -75,7 +75,12 @@ impl fmt::Display for Asked<'_> {
 }
 
 fn put(frame: &mut Vec<u8>, numbers: &[u32]) {
-    frame.extend(numbers.iter().flat_map(|number| number.to_le_bytes()));
+    let start = frame.len();
+    frame.resize(start + size_of_val(numbers), 0);
+    let (words, _) = frame[start..].as_chunks_mut();
+    for (word, number) in words.iter_mut().zip(numbers) {
+        *word = number.to_le_bytes();
+    }
 }
 
 /// Which frame it answers, how many bytes of what was lent follow, refusal, value.
