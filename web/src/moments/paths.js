@@ -1,0 +1,56 @@
+// The lines of a diagram as paths: curves and dots of each part, columns, dimension line, scale.
+
+import { SCALE_GAP, pointsOf, ticksOf } from './layout.js';
+
+/** @typedef {import('./frame.js').Frame} Frame */
+/** @typedef {import('./layout.js').Layout} Layout */
+/** @typedef {import('./layout.js').Point} Point */
+/** @typedef {import('./layout.js').SpanPoints} SpanPoints */
+/** @typedef {import('../table.js').Section} Section */
+
+/**
+ * A tenth of a pixel is enough.
+ * @param {number} position
+ */
+export function pixel(position) {
+    return Math.round(10 * position) / 10;
+}
+
+/** @param {Point} point */
+function pixels({ x, y }) {
+    return `${pixel(x)} ${pixel(y)}`;
+}
+
+/** @param {Frame} frame @param {Layout} layout @param {(keyof Section)[]} parts @returns {[string, string][]} */
+export function curvePaths(frame, layout, parts) {
+    return parts.flatMap((part) => {
+        const points = pointsOf(frame, layout, part);
+        const dots = points.flatMap(({ low, between, high }) => [low, between, high]).map((point) => `M${pixels(point)}h0`);
+        return [[`curve part-${part}`, points.map(parabola).join('')], [`dots part-${part}`, dots.join('')]];
+    });
+}
+
+/**
+ * With this control point the curve goes through the middle point.
+ * @param {SpanPoints} points
+ */
+function parabola({ low, between, high }) {
+    const control = { x: (low.x + high.x) / 2, y: 2 * between.y - (low.y + high.y) / 2 };
+    return `M${pixels(low)}Q${pixels(control)} ${pixels(high)}`;
+}
+
+/** @param {Layout} layout @returns {[string, string][]} */
+export function supportPaths({ supports, half, top, bottom, left, right, dimension }) {
+    const slashes = supports.map((x) => `M${pixel(x - 4)} ${dimension + 4}l8 -8`);
+    return [
+        ['columns', supports.map((x) => `M${pixel(x - half)} ${top}H${pixel(x + half)}V${bottom}H${pixel(x - half)}Z`).join('')],
+        ['lines', supports.map((x) => `M${pixel(x)} ${top}V${dimension + 6}`).join('')],
+        ['dimension', `M${left} ${dimension}H${right}${slashes.join('')}`],
+    ];
+}
+
+/** @param {Layout} layout @returns {[string, string][]} */
+export function scalePaths(layout) {
+    const level = (/** @type {number} */ y) => `M${layout.left - SCALE_GAP + 4} ${pixel(y)}H${layout.right}`;
+    return [['ticks', ticksOf(layout).map(({ y }) => level(y)).join('')], ['axis', level(layout.axis)]];
+}
