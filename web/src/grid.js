@@ -1,0 +1,86 @@
+// A new floor from its bays, spans, slab and materials, which are asked for all at once.
+
+import { holdDialog } from './dialogs.js';
+import { byId } from './dom.js';
+import { bytesOf } from './floor.js';
+import { wholeNumber } from './panel/fields.js';
+
+/** @typedef {import('./floor.js').Floor} Floor */
+/** @typedef {import('./floor.js').Pair} Pair */
+
+/** Where beams lie, in the order of the choices. */
+const LAYOUTS = ['none', 'outer', 'all'];
+
+/** @param {string} id */
+function typedIn(id) {
+    return /** @type {HTMLInputElement | HTMLSelectElement} */ (byId(`grid-${id}`)).value;
+}
+
+/** @param {string} id @param {string} label */
+function numberIn(id, label) {
+    const number = wholeNumber(typedIn(id));
+    if (number === null) {
+        throw new RangeError(`${label}: expected a whole number, digits alone, found “${typedIn(id)}”`);
+    }
+    return number;
+}
+
+/** @param {string} id @param {string} label */
+function numbersIn(id, label) {
+    const numbers = typedIn(id).split(/[\s,]+/).filter((word) => word !== '').map(wholeNumber);
+    if (numbers.length === 0 || numbers.length > 12 || numbers.includes(null)) {
+        throw new RangeError(`${label}: expected 1 to 12 whole numbers with spaces between, found “${typedIn(id)}”`);
+    }
+    return /** @type {number[]} */ (numbers);
+}
+
+/**
+ * A beam on each line that the layout has one on.
+ * @param {number} lines @param {Pair} beam @returns {Pair[]}
+ */
+function laidBeams(lines, beam) {
+    const layout = LAYOUTS.indexOf(typedIn('layout'));
+    return Array.from({ length: lines }, (_, line) => {
+        const outer = line === 0 || line === lines - 1;
+        return layout === 2 || (layout === 1 && outer) ? beam : [0, 0];
+    });
+}
+
+/**
+ * The floor that the dialog says. Throws words where there is no number.
+ * @returns {Floor}
+ */
+function floorInDialog() {
+    const spans = { x: numbersIn('x', 'x spans'), y: numbersIn('y', 'y spans') };
+    const [nx, ny] = [spans.x.length, spans.y.length];
+    /** @type {Pair} */
+    const beam = [numberIn('beam-width', 'beam width'), numberIn('beam-depth', 'beam depth')];
+    return {
+        t: numberIn('slab', 'slab'),
+        fc: numberIn('concrete', 'concrete'),
+        fy: numberIn('steel', 'steel'),
+        dead: numberIn('dead', 'dead load'),
+        live: numberIn('live', 'live load'),
+        cx: numberIn('cx', 'columns along x'),
+        cy: numberIn('cy', 'columns along y'),
+        sides: 0,
+        spans,
+        beams: { x: laidBeams(ny + 1, beam), y: laidBeams(nx + 1, beam) },
+        offsets: Array.from({ length: (nx + 1) * (ny + 1) }, () => [0, 0]),
+    };
+}
+
+/** @param {(bytes: Uint8Array) => string[]} open what is wrong with the floor, or nothing where it is open now */
+export function askForGrid(open) {
+    const make = () => {
+        try {
+            return open(bytesOf(floorInDialog()));
+        } catch (trouble) {
+            if (trouble instanceof RangeError) {
+                return [trouble.message];
+            }
+            throw trouble;
+        }
+    };
+    holdDialog({ button: 'new', dialog: 'grid', begin: () => {}, make });
+}
