@@ -28,8 +28,8 @@ export function sayRecord(floor, record) {
         case 2: return `concrete ${a}, steel ${b}`;
         case 3: return `dead ${a}, live ${b}`;
         case 4: return `columns ${a} ${b}, sides ${writtenSides(c)}`;
-        case 5: return `x bay ${index}, span ${a}`;
-        case 6: return `y bay ${index}, span ${a}`;
+        case 5: return `x span ${index} of ${a} mm`;
+        case 6: return `y span ${index} of ${a} mm`;
         case 7: return `x line ${index} beam ${a} ${b}`;
         case 8: return `y line ${index} beam ${a} ${b}`;
         case 9: return `column ${index % columns} ${Math.floor(index / columns)} offset ${a} ${b}`;

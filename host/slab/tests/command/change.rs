@@ -104,7 +104,7 @@ fn a_refused_change_and_why() {
         (
             "x span 2 6610",
             5,
-            "  x bay 2, span 6610: expected 1000 to 12000, a multiple of 20\n",
+            "  x span 2 of 6610 mm: expected 1000 to 12000, a multiple of 20\n",
         ),
         (
             "dead 999",
@@ -173,9 +173,8 @@ fn what_the_floor_lacks() {
     ] {
         let (status, said) = said(&garage(), &[words]);
         assert_eq!(status, 2, "{words}");
-        let start = format!(
-            "{words}: refused 9: the floor has nothing of that kind and number to change\n"
-        );
+        let start =
+            format!("{words}: refused 9: the floor has no such span, line or column to change\n");
         assert_eq!(said, start);
     }
 }
