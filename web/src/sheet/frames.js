@@ -17,7 +17,7 @@ import { kNm } from '../units.js';
  */
 export function frameSections(judged) {
     return WAYS.flatMap((way) => Array.from({ length: linesOf(judged.floor, way) }, (_, line) => {
-        const heading = `${frameName(judged.floor, way, line)}: spans ${courseOf(way)}`;
+        const heading = `${frameName(judged.floor, way, line)}: spans ${courseOf(way)}, moments in kN·m`;
         return frameSection(heading, frameOf(judged, way, line));
     }));
 }

@@ -15,10 +15,10 @@ const SHEET_NOTES = 'Moments in kN·m, rounded up to the next 0.01. Top and bott
 
 /** @param {Judged} judged @param {string} name @param {string} date @param {Words} words */
 export function sheetOf(judged, name, date, words) {
-    const head = [element('h1', {}, name), paragraph('date', date)];
+    const head = element('div', { class: 'head' }, element('h1', {}, name), paragraph('date', date));
     return judged.verdict === 0
-        ? element('article', { class: 'sheet clear' }, ...head, ...clearFloor(judged))
-        : element('article', { class: 'sheet broken' }, ...head, ...brokenFloor(judged, words));
+        ? element('article', { class: 'sheet clear' }, head, ...clearFloor(judged))
+        : element('article', { class: 'sheet broken' }, head, ...brokenFloor(judged, words));
 }
 
 /** @param {Judged} judged */

@@ -1,6 +1,7 @@
 // The sheet as it is previewed and printed. It is in the document only while it is looked at or printed, and always of the floor as it then is.
 
 import { byId } from '../dom.js';
+import { leaveField } from '../panel/fields.js';
 import { sheetOf } from './sheet.js';
 
 /** @typedef {import('../desk.js').Desk} Desk */
@@ -36,6 +37,7 @@ export class SheetView {
 
     /** @param {boolean} printed */
     print(printed) {
+        leaveField();
         this.printed = printed;
         this.show();
     }

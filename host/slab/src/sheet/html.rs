@@ -18,11 +18,11 @@ pub fn page(sheet: &Sheet) -> String {
 }
 
 fn article(sheet: &Sheet) -> String {
-    let head = [
+    let head = format!(
+        "<div class=\"head\">\n{}{}</div>\n",
         element("h1", "", &sheet.name),
-        element("p", "date", &sheet.date),
-    ]
-    .concat();
+        element("p", "date", &sheet.date)
+    );
     let (class, rest) = match &sheet.content {
         Content::Clear { facts, frames } => ("clear", clear(facts, frames)),
         Content::Broken(sentences) => ("broken", broken(sentences)),
@@ -55,7 +55,7 @@ fn broken(sentences: &[&str]) -> String {
 fn frame(frame: &Frame) -> String {
     let spans: String = frame.spans.iter().map(span).collect();
     let supports: String = frame.supports.iter().map(support).collect();
-    let title = element("h2", "", &frame.title);
+    let title = element("h2", "", &format!("{}, moments in kN·m", frame.title));
     let (span_heads, support_heads) = (
         heads(&["span", "length, mm", "section", "steel"]),
         heads(&["support", "at", "steel"]),

@@ -46,7 +46,7 @@ fn the_text_of_the_garage() {
 }
 
 const FIRST_ROWS: &str = "<section class=\"frame\">
-<h2>x line 0, south edge: spans from west to east</h2>
+<h2>x line 0, south edge: spans from west to east, moments in kN·m</h2>
 <table class=\"spans\">
 <thead><tr><th>span</th><th>length, mm</th><th>section</th><th>steel</th><th>total</th><th>column strip</th><th>middle strip</th>\
 <th>beam</th><th>slab of column strip</th></tr></thead>
@@ -73,7 +73,8 @@ fn the_page_of_the_garage() {
     assert!(page.contains("<meta charset=\"utf-8\">\n<title>a floor</title>\n"));
     assert!(page.contains(&format!("<style>\n{style}</style>")));
     let head = format!(
-        "<article class=\"sheet clear\">\n<h1>a floor</h1>\n<p class=\"date\">a day</p>\n<p class=\"facts\">{FACTS}</p>\n\
+        "<article class=\"sheet clear\">\n<div class=\"head\">\n<h1>a floor</h1>\n<p class=\"date\">a day</p>\n</div>\n\
+         <p class=\"facts\">{FACTS}</p>\n\
          <p class=\"standing\">{CLEAR}</p>\n\
          <p class=\"notes\">Moments in kN·m, rounded up to the next 0.01. {NOTES}</p>\n"
     );
@@ -98,9 +99,12 @@ fn the_frames_in_their_order() {
         .filter(|line| line.contains(": spans from "));
     assert!(titles.eq(&right));
     let titles = pieces(article(page.words())).into_iter();
+    let right = right
+        .iter()
+        .map(|title| format!("{title}, moments in kN·m"));
     assert!(titles
         .filter(|piece| piece.contains(": spans from "))
-        .eq(&right));
+        .eq(right));
 }
 
 /// Of y line 0: the ends by name, and the x lines that cross.
