@@ -128,12 +128,15 @@ test('negatives lie above the axis, positives below, all of them inside the draw
 });
 
 /**
- * Start, control point and end of each span's curve.
+ * The points of each span's curve: its start, then a control point and an end of each half.
  * @param {Frame} frame @param {Layout} layout @param {keyof Section} part
  */
 function curvesOf(frame, layout, part) {
     const [[, d]] = curvePaths(frame, layout, [part]);
-    return d.split('M').slice(1).map((curve) => curve.split(/[ Q]/).map(Number));
+    return d.split('M').slice(1).map((curve) => {
+        const numbers = curve.split(/[ Q]/).map(Number);
+        return [0, 2, 4, 6, 8].map((at) => ({ x: numbers[at], y: numbers[at + 1] }));
+    });
 }
 
 test('a curve goes through all three sections of its span', () => {
@@ -142,20 +145,22 @@ test('a curve goes through all three sections of its span', () => {
     for (const part of PARTS) {
         const curves = curvesOf(frame, layout, part);
         pointsOf(frame, layout, part).forEach(({ low, between, high }, span) => {
-            const [x0, y0, x1, y1, x2, y2] = curves[span];
-            const drawn = [x0, y0, (x0 + 2 * x1 + x2) / 4, (y0 + 2 * y1 + y2) / 4, x2, y2];
-            const asked = [low.x, low.y, between.x, between.y, high.x, high.y];
-            drawn.forEach((place, which) => assert.ok(Math.abs(place - asked[which]) <= 0.1));
+            const [start, , middle, , end] = curves[span];
+            [[start, low], [middle, between], [end, high]].forEach(([drawn, asked]) => (
+                assert.ok(Math.abs(drawn.x - asked.x) <= 0.1 && Math.abs(drawn.y - asked.y) <= 0.1)));
         });
     }
 });
 
-test('the deepest curve of a frame ends where the drawing does', () => {
+test('no curve goes beyond the moments that stand', () => {
     for (const frame of [...framesOf(garage), ...framesOf(largest)]) {
         const layout = layoutOf(frame, 800);
-        const depths = curvesOf(frame, layout, 'total').flatMap(([, y0, , y1, , y2]) => (
-            Array.from({ length: 1001 }, (_, step) => (1 - step / 1000) ** 2 * y0 + 2 * (step / 1000) * (1 - step / 1000) * y1 + (step / 1000) ** 2 * y2)));
-        assert.ok(Math.abs(Math.max(...depths) - layout.bottom) < 0.2);
+        for (const [start, before, middle, after, end] of curvesOf(frame, layout, 'total')) {
+            // A curve of this kind stays among its points.
+            const heights = [start, before, middle, after, end].map(({ y }) => y);
+            assert.ok(Math.max(...heights) <= middle.y && Math.min(...heights) >= Math.min(start.y, end.y));
+        }
+        assert.ok(Math.abs(Math.max(...pointsOf(frame, layout, 'total').map(({ between }) => between.y)) - layout.bottom) < 0.2);
     }
 });
 

@@ -1,4 +1,4 @@
-// The moments of a frame drawn: for each part a parabola through the three sections of each span, top steel above the axis, bottom steel below.
+// The moments of a frame drawn: for each part a curve through the three sections of each span, top steel above the axis, bottom steel below.
 
 import { drawn, setAttributes } from '../dom.js';
 import { PARTS, SECTIONS } from '../table.js';

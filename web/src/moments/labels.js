@@ -62,12 +62,12 @@ function facesOf(frame, layout) {
 
 /**
  * Both faces side by side, or one label where they are equal or it is the only one.
- * @param {Face[]} faces @param {number} x @returns {Label[]}
+ * @param {Face[]} faces @param {number} x @param {number} governing @returns {Label[]}
  */
-function apartLabels(faces, x) {
+function apartLabels(faces, x, governing) {
     const [first, second] = faces;
     if (second === undefined || first.moment === second.moment) {
-        return governingLabels(faces, x);
+        return [governingLabel(faces, x, governing)];
     }
     return [labelBeside(first, x, -1), labelBeside(second, x, 1)];
 }
@@ -78,10 +78,13 @@ function labelBeside(face, x, side) {
     return { x: x + side * (pixelsOf(words) / 2 + CLEARANCE), y: face.y - CLEARANCE, words };
 }
 
-/** @param {Face[]} faces @param {number} x @returns {Label[]} */
-function governingLabels(faces, x) {
-    const governing = faces.reduce((larger, face) => (face.moment > larger.moment ? face : larger));
-    return [{ x, y: governing.y - CLEARANCE, words: kNm(governing.moment) }];
+/**
+ * At the height of the face that the library took it from.
+ * @param {Face[]} faces @param {number} x @param {number} governing @returns {Label}
+ */
+function governingLabel(faces, x, governing) {
+    const face = faces.find(({ moment }) => moment === governing) ?? faces[0];
+    return { x, y: face.y - CLEARANCE, words: kNm(governing) };
 }
 
 /**
@@ -89,10 +92,10 @@ function governingLabels(faces, x) {
  * @param {Frame} frame @param {Layout} layout
  */
 export function valueLabels(frame, layout) {
-    const faces = facesOf(frame, layout);
-    const apart = faces.flatMap((pair, support) => apartLabels(pair, layout.supports[support]));
+    const supports = facesOf(frame, layout).map((faces, support) => ({ faces, x: layout.supports[support], governing: frame.supports[support].total }));
+    const apart = supports.flatMap(({ faces, x, governing }) => apartLabels(faces, x, governing));
     const fits = fittingLabels(apart).length === apart.length;
-    const ends = fits ? apart : fittingLabels(faces.flatMap((pair, support) => governingLabels(pair, layout.supports[support])));
+    const ends = fits ? apart : fittingLabels(supports.map(({ faces, x, governing }) => governingLabel(faces, x, governing)));
     const between = pointsOf(frame, layout, 'total').map((points, span) => (
         { x: points.between.x, y: points.between.y + LABEL_HEIGHT + 1, words: kNm(frame.spans[span].between.total) }));
     return [...ends, ...fittingLabels(between)];

@@ -28,7 +28,7 @@ export function layoutOf(frame, width) {
     const bottom = DIAGRAM_HEIGHT - ROOM.bottom;
     const scale = (right - ROOM.left) / frame.lengths.reduce((sum, length) => sum + length);
     const highest = Math.max(...frame.spans.flatMap(({ low, high }) => [low.total, high.total]));
-    const lowest = Math.max(...frame.spans.map(deepestOfCurve));
+    const lowest = Math.max(...frame.spans.map(({ between }) => between.total));
     const unit = (bottom - ROOM.top) / Math.max(1, highest + lowest);
     let x = ROOM.left;
     const supports = [x, ...frame.lengths.map((length) => (x += scale * length))];
@@ -36,16 +36,6 @@ export function layoutOf(frame, width) {
         height: DIAGRAM_HEIGHT, left: ROOM.left, right, top: ROOM.top, bottom, dimension: bottom + 32, axis: ROOM.top + unit * highest, unit,
         half: scale * frame.columns / 2, supports,
     };
-}
-
-/**
- * The parabola of a span with unequal ends lies a little deeper than its middle.
- * @param {import('../table.js').SpanRecord} record
- */
-function deepestOfCurve({ low, between, high }) {
-    const apart = low.total - high.total;
-    const bend = low.total + 2 * between.total + high.total;
-    return bend === 0 ? 0 : between.total + apart * apart / (8 * bend);
 }
 
 /**

@@ -26,17 +26,17 @@ export function curvePaths(frame, layout, parts) {
     return parts.flatMap((part) => {
         const points = pointsOf(frame, layout, part);
         const dots = points.flatMap(({ low, between, high }) => [low, between, high]).map((point) => `M${pixels(point)}h0`);
-        return [[`curve part-${part}`, points.map(parabola).join('')], [`dots part-${part}`, dots.join('')]];
+        return [[`curve part-${part}`, points.map(curve).join('')], [`dots part-${part}`, dots.join('')]];
     });
 }
 
 /**
- * With this control point the curve goes through the middle point.
+ * From each end a parabola that is level at the middle: so the curve goes nowhere beyond the three moments that stand.
  * @param {SpanPoints} points
  */
-function parabola({ low, between, high }) {
-    const control = { x: (low.x + high.x) / 2, y: 2 * between.y - (low.y + high.y) / 2 };
-    return `M${pixels(low)}Q${pixels(control)} ${pixels(high)}`;
+function curve({ low, between, high }) {
+    const [before, after] = [low, high].map((end) => pixels({ x: (end.x + between.x) / 2, y: between.y }));
+    return `M${pixels(low)}Q${before} ${pixels(between)}Q${after} ${pixels(high)}`;
 }
 
 /** @param {Layout} layout @returns {[string, string][]} */
