@@ -6,6 +6,7 @@ import test from 'node:test';
 import { RECORD_BYTES, bytesOf, recordOf } from '../src/floor.js';
 import { opened } from '../src/judge.js';
 import { Library } from '../src/library.js';
+import { sayWhy } from '../src/say/culprits.js';
 import { brokenLimits } from '../src/say/limits.js';
 import { sayPlace } from '../src/say/places.js';
 import { sayRange, sayRecord, sayRefusal } from '../src/say/refusals.js';
@@ -96,9 +97,10 @@ test('there is no place of no limit', () => {
     assert.throws(() => sayPlace(judged, { limit: 3, way: 'x', i: 0, j: 0 }), RangeError);
 });
 
-test('refusals 1 to 7, as `slab check` says them', () => {
+test('refusals 1 to 7 and what they are about, as `slab check` says them', () => {
     const draw = new Draw(7);
     const seen = new Set();
+    let culprits = 0;
     const files = draw.list(150, () => bytesOf(drawAny(draw)));
     const whole = bytesOf(drawAccepted(draw, 3));
     const otherKind = Uint8Array.from(whole).fill(9, RECORD_BYTES, RECORD_BYTES + 2);
@@ -108,11 +110,17 @@ test('refusals 1 to 7, as `slab check` says them', () => {
         if ('refusal' in answer) {
             const { status, said } = checked(bytes);
             assert.equal(status, 2);
-            assert.equal(said.split('\n')[0], sayRefusal(words, answer.refusal));
+            const lines = said.split('\n').map((line) => line.trim());
+            const why = sayWhy(library, words, bytes, answer.refusal);
+            assert.equal(lines[0], sayRefusal(words, answer.refusal));
+            // Of 1 to 3 `slab` shows the file's length and its first record, which are no judgement.
+            assert.deepEqual(why, answer.refusal < 5 ? [lines[0]] : lines.length <= 13 ? lines : [...lines.slice(0, 13), `and ${lines.length - 13} more`]);
             seen.add(answer.refusal);
+            culprits += why.length - 1;
         }
     }
     assert.deepEqual([...seen].sort(), [1, 2, 3, 4, 5, 6, 7]);
+    assert.ok(culprits > 100, `${culprits} culprits`);
 });
 
 test('a number without a sentence stands alone', () => {
@@ -121,7 +129,7 @@ test('a number without a sentence stands alone', () => {
     assert.ok(!('refusal' in judged));
     assert.equal(sayRefusal(none, 12), 'refused 12');
     assert.equal(brokenLimits(none, judged)[0].sentence, 'limit 1');
-    assert.equal(sayRange(none, judged.floor, recordOf(5, 2, 990)), 'x bay 2, span 990');
+    assert.equal(sayRange(none, judged.floor, recordOf(5, 2, 990)), 'x span 2 of 990 mm');
 });
 
 test('the sentences are those of words/, each by its number', () => {
