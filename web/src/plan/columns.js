@@ -21,9 +21,13 @@ function drawColumn(paper, i, j, [east, north]) {
     const height = Math.max(scale.length(floor.cy), LEAST_COLUMN);
     const x = at.y[i] + scale.length(east) - width / 2;
     const y = at.x[j] - scale.length(north) - height / 2;
-    const group = drawing.put(key, layers.columns, 'g', { class: paper.classes('column', key), 'data-i': i, 'data-j': j });
     const off = east === 0 && north === 0 ? 'on its lines' : `off its lines by ${east} mm along x and ${north} mm along y`;
-    drawing.put(`${key} title`, group, 'title', {}, `Column on y line ${i}, x line ${j}, ${floor.cx} by ${floor.cy} mm, ${off}`);
-    drawing.put(`${key} ring`, group, 'circle', { class: 'ring', cx: x + width / 2, cy: y + height / 2, r: Math.max(width, height) / 2 + 5 });
+    const words = `Column on y line ${i}, x line ${j}, ${floor.cx} by ${floor.cy} mm, ${off}`;
+    const classes = paper.classes('column', key);
+    const group = drawing.put(key, layers.columns, 'g', { class: classes, 'data-i': i, 'data-j': j, ...paper.reached('column', i, j, words) });
+    drawing.put(`${key} title`, group, 'title', {}, words);
     drawing.put(`${key} box`, group, 'rect', { x, y, width, height });
+    if (classes !== 'column') {
+        drawing.put(`${key} ring`, group, 'circle', { class: 'ring', cx: x + width / 2, cy: y + height / 2, r: Math.max(width, height) / 2 + 5 });
+    }
 }

@@ -31,6 +31,7 @@ class Grip {
         this.desktop = desktop;
         this.from = { x: event.clientX, y: event.clientY };
         this.first = desktop.floor();
+        this.last = this.first;
         this.factor = desktop.factor();
         this.sent = 0;
         this.wanted = 0;
@@ -55,11 +56,13 @@ class Grip {
         }
     }
 
+    /** Where something else has changed the floor meanwhile, the line in hand is none of it any more. */
     send() {
         this.waiting = false;
-        if (this.wanted !== this.sent) {
+        if (this.wanted !== this.sent && this.desktop.floor() === this.last) {
             this.sent = this.wanted;
             this.desktop.send(movedLine(this.first, this.line.way, this.line.line, this.wanted), this);
+            this.last = this.desktop.floor();
         }
     }
 
@@ -104,7 +107,13 @@ function holdByPointer(svg, desktop) {
             grip = null;
         }
     };
-    svg.addEventListener('pointermove', (event) => gripOf(event)?.moveTo(event));
+    svg.addEventListener('pointermove', (event) => {
+        // Let go of where this page could not see it.
+        if (event.buttons === 0) {
+            letGo(event);
+        }
+        gripOf(event)?.moveTo(event);
+    });
     svg.addEventListener('pointerup', letGo);
     svg.addEventListener('pointercancel', letGo);
 }

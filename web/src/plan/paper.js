@@ -8,7 +8,7 @@ import { linesInMm } from './scale.js';
 /** @typedef {import('./scale.js').Scale} Scale */
 
 /** The parts of the plan, from the lowest up. */
-const LAYERS = ['floor', 'panels', 'sides', 'lines', 'columns', 'spans'];
+const LAYERS = ['panels', 'sides', 'lines', 'columns', 'words', 'spans', 'outline'];
 
 /** What stays from one step to the next. */
 export class Board {
@@ -45,6 +45,16 @@ export class Paper {
     edges() {
         const { x, y } = this.at;
         return { west: y[0], east: y[y.length - 1], south: x[0], north: x[x.length - 1] };
+    }
+
+    /**
+     * Of panels, and of columns, the keyboard comes to one, and goes on from there by the arrow keys.
+     * @param {'panel' | 'column'} sort @param {number} i @param {number} j @param {string} words
+     */
+    reached(sort, i, j, words) {
+        const { picked } = this.marked;
+        const first = picked.startsWith(sort) ? picked : `${sort} 0 0`;
+        return { tabindex: first === `${sort} ${i} ${j}` ? 0 : -1, role: 'button', 'aria-label': words };
     }
 
     /** @param {string} name @param {string} key */

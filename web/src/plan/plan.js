@@ -15,6 +15,7 @@ import { drawSpans } from './spans.js';
 export class PlanView {
     /** @param {SVGSVGElement} svg @param {() => void} onSize the plan has another size and is to be shown anew */
     constructor(svg, onSize) {
+        this.svg = svg;
         this.board = new Board(svg);
         // Asked once: to ask at every step would make the browser lay out the whole page before the step is drawn.
         this.size = svg.getBoundingClientRect();
@@ -40,6 +41,18 @@ export class PlanView {
                 part(paper);
             }
         });
+    }
+
+    /** Whether some number has no room. */
+    isCrowded() {
+        return this.svg.querySelector('text.crowded') !== null;
+    }
+
+    focusPicked() {
+        const picked = this.svg.querySelector('g.picked');
+        if (picked instanceof SVGElement) {
+            picked.focus();
+        }
     }
 
     factor() {

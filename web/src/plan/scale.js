@@ -6,7 +6,7 @@ import { across } from '../floor.js';
 /** @typedef {import('../floor.js').Way} Way */
 
 /** Room around the floor: line names and sides left and above, sides and spans right and below. */
-export const MARGIN = { left: 62, top: 58, right: 72, bottom: 70 };
+export const MARGIN = { left: 62, top: 58, right: 77, bottom: 75 };
 
 /**
  * The distance of each line from the first one across it, with the last.
@@ -66,8 +66,8 @@ export function linesInMm(floor) {
     return { x: stations(floor.spans[across('x')]), y: stations(floor.spans[across('y')]) };
 }
 
-/** So wide a digit is, as a share of its height. */
-const DIGIT_WIDTH = 0.6;
+/** So wide a digit is at most, as a share of its height. */
+const DIGIT_WIDTH = 0.64;
 
 /** The sizes of text in the plan, in pixels, the better first. */
 const TEXT_SIZES = [12, 9];
@@ -77,5 +77,5 @@ const TEXT_SIZES = [12, 9];
  * @param {string} text @param {number} width @param {number} height
  */
 export function sizeThatFits(text, width, height) {
-    return TEXT_SIZES.find((size) => DIGIT_WIDTH * size * text.length + 3 <= width && size <= height) ?? 0;
+    return TEXT_SIZES.find((size) => DIGIT_WIDTH * size * text.length + 1 <= width && size <= height) ?? 0;
 }

@@ -4,7 +4,7 @@ import { CODES, codeOf, SIDES } from '../sides.js';
 
 /** @typedef {import('./paper.js').Paper} Paper */
 
-const DISTANCE_OF_WORDS = 19;
+const DISTANCE_OF_WORDS = 17;
 
 /** @param {Paper} paper */
 export function drawSides(paper) {
@@ -19,9 +19,9 @@ export function drawSides(paper) {
     for (const side of SIDES) {
         const { x, y, edge } = places[side];
         const code = CODES[codeOf(paper.floor.sides, side)];
-        const group = paper.drawing.put(side, paper.layers.sides, 'g', { class: `side ${code}`, 'data-side': side });
-        paper.drawing.put(`${side} edge`, group, 'path', { class: 'edge', d: edge });
+        paper.drawing.put(`${side} edge`, paper.layers.sides, 'path', { class: `edge ${code}`, d: edge });
+        const group = paper.drawing.put(side, paper.layers.words, 'g', { class: 'side', 'data-side': side });
         const turned = side === 'west' || side === 'east' ? `rotate(-90 ${x} ${y})` : '';
-        paper.drawing.put(`${side} words`, group, 'text', { class: 'words', x, y, transform: turned }, `${side}: ${code}`);
+        paper.drawing.put(`${side} words`, group, 'text', { x, y, transform: turned }, `${side}: ${code}`);
     }
 }

@@ -7,10 +7,14 @@ import { sizeThatFits } from './scale.js';
 /** @typedef {import('../floor.js').Way} Way */
 /** @typedef {import('./paper.js').Paper} Paper */
 
-const DISTANCE = 34;
+const DISTANCE = 39;
 const TICK = 4;
 /** How far from the line its length is written along it, and across it where it does not fit along. */
 const BESIDE = { along: 11, across: 22 };
+
+/** The bay's number, on the other side of the line and smaller. */
+const BAY_BESIDE = 6;
+const BAY_SIZE = 9;
 
 /** @param {Paper} paper */
 export function drawSpans(paper) {
@@ -32,6 +36,15 @@ function drawSpan(paper, way, span, length) {
     drawing.put(`${key} line`, group, 'path', { class: 'dimension', d: dimension(way, ends, place) });
     drawing.put(`${key} hold`, group, 'path', { class: 'hold', d: straight(way, ends, place + BESIDE.along) });
     drawing.put(`${key} length`, group, 'text', placeOfLength(way, ends, place, String(length)), String(length));
+    drawing.put(`${key} bay`, group, 'text', placeOfBay(way, ends, place, String(span)), String(span));
+}
+
+/** @param {Way} way @param {number[]} ends @param {number} place @param {string} text */
+function placeOfBay(way, ends, place, text) {
+    const room = Math.abs(ends[1] - ends[0]);
+    const middle = (ends[0] + ends[1]) / 2;
+    const [x, y] = way === 'x' ? [middle, place - BAY_BESIDE] : [place - BAY_BESIDE, middle];
+    return { x, y, 'font-size': BAY_SIZE, class: sizeThatFits(text, room, room) === 0 ? 'bay crowded' : 'bay' };
 }
 
 /**
