@@ -1,13 +1,16 @@
 // The page: the desk, and every view of what lies on it, shown anew after each step.
 
 import { byId, element } from './dom.js';
+import { withRecords } from './floor.js';
 import { FrameView } from './moments/view.js';
-import { showStanding } from './panel/standing.js';
+import { StandingView } from './panel/standing.js';
+import { leaveField } from './panel/fields.js';
 import { isThere, keyOfPicked, pickedFields } from './panel/picked.js';
 import { wholeFields } from './panel/whole.js';
 import { holdLines } from './plan/drag.js';
+import { neighbourOf, pickedUnder } from './plan/pick.js';
 import { PlanView } from './plan/plan.js';
-import { sayRange, sayRefusal } from './say/refusals.js';
+import { sayWhy } from './say/culprits.js';
 import { SheetView } from './sheet/view.js';
 
 /** @typedef {import('./desk.js').Desk} Desk */
@@ -19,10 +22,8 @@ import { SheetView } from './sheet/view.js';
 /** @typedef {import('./panel/picked.js').Picked} Picked */
 /** @typedef {import('./say/words.js').Words} Words */
 
-const LEGEND = 'In each panel its least thickness in mm. Spans in mm. A column off its lines is drawn to the east and north.';
-
-/** 01: a value out of range, for which the range is said beside the reason. */
-const OUT_OF_RANGE = 5;
+const LEGEND = 'In each panel its least thickness in mm, and beside each span its bay and its length in mm. A column off its lines is drawn to the east and north.';
+const CROWDED = 'Some numbers have no room here: make the plan larger, or point at what they belong to.';
 
 export class App {
     /** @param {Desk} desk @param {Words} words */
@@ -39,11 +40,12 @@ export class App {
         this.plan = new PlanView(plan, () => this.showPlan());
         this.frame = new FrameView(byId('frame'), (way, line) => this.pick({ sort: 'line', way, number: line }));
         this.sheet = new SheetView(desk, words);
+        this.standing = new StandingView(byId('standing'), byId('limits'), words, (places) => this.point(places));
         /** @type {Hand} */
         this.hand = {
             floor: () => this.desk.held.floor,
             take: (records) => this.take(records),
-            reopen: (bytes) => this.tell(this.desk.open(bytes)),
+            reopen: (bytes) => this.reopen(bytes),
             complain: (text) => this.say(0, [text]),
         };
         this.whole = wholeFields(this.hand);
@@ -72,30 +74,33 @@ export class App {
                 this.showPlan();
             },
         });
-        plan.addEventListener('click', (event) => this.pickUnder(event.target));
-        plan.addEventListener('keydown', (event) => {
-            if (event.key === 'Enter' || event.key === ' ') {
-                event.preventDefault();
-                this.pickUnder(event.target);
-                byId('picked').querySelector('input')?.focus();
+        plan.addEventListener('click', (event) => {
+            const picked = pickedUnder(event.target);
+            if (picked !== null) {
+                this.pick(picked);
             }
         });
+        plan.addEventListener('keydown', (event) => this.pickByKey(event));
     }
 
-    /** @param {EventTarget | null} target */
-    pickUnder(target) {
-        const group = target instanceof Element ? target.closest('g.panel, g.column, g.span, g.line') : null;
-        if (!(group instanceof SVGElement)) {
+    /**
+     * Enter goes on to the fields of what has the focus, the arrow keys from a panel or a column to its neighbour.
+     * @param {KeyboardEvent} event
+     */
+    pickByKey(event) {
+        const picked = pickedUnder(event.target);
+        if (picked === null) {
             return;
         }
-        const { way, line, span, i, j } = group.dataset;
-        const along = /** @type {Way} */ (way);
-        if (line !== undefined) {
-            this.pick({ sort: 'line', way: along, number: Number(line) });
-        } else if (span !== undefined) {
-            this.pick({ sort: 'span', way: along, number: Number(span) });
-        } else {
-            this.pick({ sort: group.classList.contains('panel') ? 'panel' : 'column', i: Number(i), j: Number(j) });
+        const beside = neighbourOf(picked, event.key);
+        if (event.key === 'Enter' || event.key === ' ') {
+            event.preventDefault();
+            this.pick(picked);
+            byId('picked').querySelector('input')?.focus();
+        } else if (beside !== null && isThere(this.desk.held.floor, beside)) {
+            event.preventDefault();
+            this.pick(beside);
+            this.plan.focusPicked();
         }
     }
 
@@ -104,6 +109,8 @@ export class App {
      * @param {Picked} picked
      */
     pick(picked) {
+        leaveField();
+        this.say(0, []);
         this.picked = picked;
         if (picked.sort === 'line') {
             this.framed = { way: picked.way, line: picked.number };
@@ -113,22 +120,31 @@ export class App {
 
     /** @param {Uint8Array[]} records @param {object | null} gesture */
     take(records, gesture = null) {
-        this.tell(this.desk.take(records, gesture), records);
+        const refused = this.desk.take(records, gesture);
+        const { bytes } = this.desk.held;
+        this.tell(refused, refused === null ? bytes : withRecords(bytes, records.slice(0, refused.position + 1)));
+    }
+
+    /** @param {Uint8Array} bytes */
+    reopen(bytes) {
+        this.tell(this.desk.open(bytes), bytes);
     }
 
     /**
      * A refusal gets its number and its reason.
-     * @param {Refused | null} refused @param {Uint8Array[]} records
+     * @param {Refused | null} refused @param {Uint8Array} bytes of the floor that it is about
      */
-    tell(refused, records = []) {
+    tell(refused, bytes) {
         if (refused === null) {
             this.say(0, []);
-            return;
+        } else {
+            this.say(refused.refusal, [...this.why(bytes, refused.refusal), 'The floor keeps what it had.']);
         }
-        const { refusal, position } = refused;
-        const culprit = records[position];
-        const range = refusal === OUT_OF_RANGE && culprit !== undefined ? [sayRange(this.words, this.desk.held.floor, culprit)] : [];
-        this.say(refusal, [sayRefusal(this.words, refusal), ...range, 'The floor keeps what it had.']);
+    }
+
+    /** @param {Uint8Array} bytes @param {number} refusal */
+    why(bytes, refusal) {
+        return sayWhy(this.desk.library, this.words, bytes, refusal);
     }
 
     /** @param {number} refusal 0 where there is none @param {string[]} lines */
@@ -153,10 +169,11 @@ export class App {
             this.framed = { way: 'x', line: 0 };
         }
         byId('name').textContent = name;
+        byId('name').title = name;
         document.title = `${name} – Slab`;
-        setDisabled('undo', this.desk.past.length === 0);
-        setDisabled('redo', this.desk.future.length === 0);
-        showStanding(byId('standing'), byId('limits'), this.words, held, (places) => this.point(places));
+        setDisabled('redo', this.desk.future.length === 0, 'undo');
+        setDisabled('undo', this.desk.past.length === 0, 'redo');
+        this.standing.show(held);
         this.showFields();
         this.frame.show(held, this.framed);
         this.pointed = [];
@@ -165,7 +182,8 @@ export class App {
     }
 
     showFields() {
-        const key = `${keyOfPicked(this.picked)} of ${this.desk.held.floor.spans.x.length}`;
+        const { x, y } = this.desk.held.floor.spans;
+        const key = `${keyOfPicked(this.picked)} of ${x.length} by ${y.length}`;
         if (this.fieldsOf !== key) {
             this.fieldsOf = key;
             this.fields = pickedFields(this.hand, this.picked);
@@ -187,11 +205,18 @@ export class App {
     showPlan() {
         const { held } = this.desk;
         this.plan.show(held, keyOfPicked(this.picked), this.pointed);
-        byId('legend').textContent = `${LEGEND} The slab is ${held.floor.t} mm.`;
+        byId('legend').textContent = this.plan.isCrowded() ? `${LEGEND} ${CROWDED}` : LEGEND;
     }
 }
 
-/** @param {string} id @param {boolean} disabled */
-function setDisabled(id, disabled) {
-    /** @type {HTMLButtonElement} */ (byId(id)).disabled = disabled;
+/**
+ * A button that has the focus when there is nothing left for it to do hands it on.
+ * @param {string} id @param {boolean} disabled @param {string} next
+ */
+function setDisabled(id, disabled, next) {
+    const button = /** @type {HTMLButtonElement} */ (byId(id));
+    if (disabled && document.activeElement === button) {
+        byId(next).focus();
+    }
+    button.disabled = disabled;
 }

@@ -17,11 +17,16 @@ export class Desk {
         this.library = library;
         /** @type {Judged} */
         this.held = judged;
-        this.name = name;
+        this.name = oneLine(name);
         /** @type {Sheaf[]} */
         this.past = [];
         /** @type {Sheaf[]} */
         this.future = [];
+        /**
+         * What the last step took from the future.
+         * @type {Sheaf[]}
+         */
+        this.dropped = [];
         /**
          * The drag that is under way: all of its steps are one step back.
          * @type {object | null}
@@ -51,6 +56,7 @@ export class Desk {
         }
         if (gesture === null || gesture !== this.gesture) {
             this.past.push(this.sheaf());
+            this.dropped = this.future;
         }
         this.gesture = gesture;
         this.future = [];
@@ -58,11 +64,12 @@ export class Desk {
         return null;
     }
 
-    /** A drag that ends where it began leaves nothing to go back to. */
+    /** A drag that ends where it began is no step, and what could be done again before it still can. */
     endGesture() {
         const before = this.past.at(-1);
         if (this.gesture !== null && before !== undefined && sameBytes(before.bytes, this.held.bytes)) {
             this.past.pop();
+            this.future = this.dropped;
             this.onChange();
         }
         this.gesture = null;
@@ -94,7 +101,7 @@ export class Desk {
     /** @param {Judged} judged @param {string} name */
     lay(judged, name) {
         this.held = judged;
-        this.name = name;
+        this.name = oneLine(name);
         this.onChange();
     }
 
@@ -102,6 +109,14 @@ export class Desk {
     sheaf() {
         return { bytes: this.held.bytes, name: this.name };
     }
+}
+
+/**
+ * So that no name looks like a line of the sheet.
+ * @param {string} name
+ */
+function oneLine(name) {
+    return name.replace(/\p{Cc}/gu, ' ');
 }
 
 /** @param {Uint8Array} one @param {Uint8Array} other */

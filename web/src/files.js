@@ -9,11 +9,11 @@ import { readText } from './text/read.js';
 /** @typedef {{bytes: Uint8Array} | {faults: string[]}} Given */
 
 /**
- * The floor's name: the file's without its ending, on one line, so that no name looks like a line of the sheet. As `slab sheet` has it.
+ * The floor's name: the file's without its ending, as `slab sheet` has it.
  * @param {string} file
  */
 export function nameOfFile(file) {
-    return file.replace(/(?<=.)\.[^.]*$/, '').replace(/\p{Cc}/gu, ' ');
+    return file.replace(/(?<=.)\.[^.]*$/s, '');
 }
 
 /**

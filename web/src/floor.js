@@ -49,6 +49,22 @@ export function readRecord(bytes, at = 0) {
 }
 
 /**
+ * The floor with these records in the places of those of their kind and index; one that it lacks is left out.
+ * @param {Uint8Array} bytes @param {Uint8Array[]} records
+ */
+export function withRecords(bytes, records) {
+    const changed = bytes.slice();
+    for (const record of records) {
+        for (let at = 0; at < changed.length; at += RECORD_BYTES) {
+            if (record.subarray(0, 4).every((byte, which) => byte === changed[at + which])) {
+                changed.set(record, at);
+            }
+        }
+    }
+    return changed;
+}
+
+/**
  * The file.
  * @param {Floor} floor
  */

@@ -3,13 +3,13 @@
 import { holdDialog } from './dialogs.js';
 import { byId } from './dom.js';
 import { bytesOf } from './floor.js';
-import { wholeNumber } from './panel/fields.js';
+import { notWhole, wholeNumber } from './panel/fields.js';
 
 /** @typedef {import('./floor.js').Floor} Floor */
 /** @typedef {import('./floor.js').Pair} Pair */
 
-/** Where beams lie, in the order of the choices. */
-const LAYOUTS = ['none', 'outer', 'all'];
+/** More columns than these bays make have no numbers in a floor file. How many bays a floor may have is for the library to say. */
+const MOST_BAYS = 255;
 
 /** @param {string} id */
 function typedIn(id) {
@@ -20,7 +20,7 @@ function typedIn(id) {
 function numberIn(id, label) {
     const number = wholeNumber(typedIn(id));
     if (number === null) {
-        throw new RangeError(`${label}: expected a whole number, digits alone, found “${typedIn(id)}”`);
+        throw new RangeError(`${label}: ${notWhole(typedIn(id))}`);
     }
     return number;
 }
@@ -28,8 +28,8 @@ function numberIn(id, label) {
 /** @param {string} id @param {string} label */
 function numbersIn(id, label) {
     const numbers = typedIn(id).split(/[\s,]+/).filter((word) => word !== '').map(wholeNumber);
-    if (numbers.length === 0 || numbers.length > 12 || numbers.includes(null)) {
-        throw new RangeError(`${label}: expected 1 to 12 whole numbers with spaces between, found “${typedIn(id)}”`);
+    if (numbers.length > MOST_BAYS || numbers.includes(null)) {
+        throw new RangeError(`${label}: expected whole numbers with spaces between, found “${typedIn(id)}”`);
     }
     return /** @type {number[]} */ (numbers);
 }
@@ -39,10 +39,10 @@ function numbersIn(id, label) {
  * @param {number} lines @param {Pair} beam @returns {Pair[]}
  */
 function laidBeams(lines, beam) {
-    const layout = LAYOUTS.indexOf(typedIn('layout'));
+    const layout = typedIn('layout');
     return Array.from({ length: lines }, (_, line) => {
         const outer = line === 0 || line === lines - 1;
-        return layout === 2 || (layout === 1 && outer) ? beam : [0, 0];
+        return layout === 'all' || (layout === 'outer' && outer) ? beam : [0, 0];
     });
 }
 
@@ -54,7 +54,7 @@ function floorInDialog() {
     const spans = { x: numbersIn('x', 'x spans'), y: numbersIn('y', 'y spans') };
     const [nx, ny] = [spans.x.length, spans.y.length];
     /** @type {Pair} */
-    const beam = [numberIn('beam-width', 'beam width'), numberIn('beam-depth', 'beam depth')];
+    const beam = typedIn('layout') === 'none' ? [0, 0] : [numberIn('beam-width', 'beam width'), numberIn('beam-depth', 'beam depth')];
     return {
         t: numberIn('slab', 'slab'),
         fc: numberIn('concrete', 'concrete'),

@@ -6,7 +6,7 @@ import { byId } from './dom.js';
 import { givenFile, nameOfFile, saveAs } from './files.js';
 import { askForGrid } from './grid.js';
 import { Library } from './library.js';
-import { sayRefusal } from './say/refusals.js';
+import { leaveField } from './panel/fields.js';
 import { readWords } from './say/words.js';
 import { writeText } from './text/write.js';
 import { editAsText } from './writing.js';
@@ -38,7 +38,28 @@ async function openFile(app, file) {
     if (refused === null) {
         app.say(0, []);
     } else {
-        app.say(refused.refusal, [`${file.name}: ${sayRefusal(app.words, refused.refusal)}`, 'What was open stays.']);
+        const [reason, ...culprits] = app.why(given.bytes, refused.refusal);
+        app.say(refused.refusal, [`${file.name}: ${reason}`, ...culprits, 'What was open stays.']);
+    }
+}
+
+/**
+ * A folder, or a file that is gone, cannot be read.
+ * @param {App} app @param {FileList | null | undefined} files of which the first is opened
+ */
+async function openFirst(app, files) {
+    const [file] = files ?? [];
+    if (file === undefined || document.querySelector('dialog[open]') !== null) {
+        return;
+    }
+    leaveField();
+    try {
+        await openFile(app, file);
+    } catch (trouble) {
+        if (!(trouble instanceof DOMException)) {
+            throw trouble;
+        }
+        app.say(0, [`${file.name} cannot be read. What was open stays.`]);
     }
 }
 
@@ -47,20 +68,14 @@ function holdFiles(app) {
     const chosen = /** @type {HTMLInputElement} */ (byId('file'));
     byId('open').addEventListener('click', () => chosen.click());
     chosen.addEventListener('change', async () => {
-        const [file] = chosen.files ?? [];
-        if (file !== undefined) {
-            await openFile(app, file);
-        }
+        await openFirst(app, chosen.files);
         // So that the same file can be opened once more.
         chosen.value = '';
     });
     document.addEventListener('dragover', (event) => event.preventDefault());
     document.addEventListener('drop', (event) => {
         event.preventDefault();
-        const [file] = event.dataTransfer?.files ?? [];
-        if (file !== undefined) {
-            openFile(app, file);
-        }
+        openFirst(app, event.dataTransfer?.files);
     });
     byId('save').addEventListener('click', () => saveAs(`${app.desk.name}.floor`, app.desk.held.bytes, 'application/octet-stream'));
     byId('save-text').addEventListener('click', () => saveAs(`${app.desk.name}.txt`, writeText(app.desk.held.floor), 'text/plain'));
@@ -75,6 +90,7 @@ function holdKeys() {
         const free = document.querySelector('dialog[open]') === null;
         if (free && (event.ctrlKey || event.metaKey) && stroke in buttons) {
             event.preventDefault();
+            leaveField();
             byId(buttons[stroke]).click();
         }
     });
@@ -94,7 +110,7 @@ function holdButtons(app) {
     /** @param {string} [name] */
     const opens = (name) => (/** @type {Uint8Array} */ bytes) => {
         const refused = app.desk.open(bytes, name);
-        return refused === null ? [] : [sayRefusal(app.words, refused.refusal)];
+        return refused === null ? [] : app.why(bytes, refused.refusal);
     };
     askForGrid(opens(NEW_NAME));
     editAsText(() => app.desk.held.floor, opens());

@@ -22,6 +22,14 @@ export function wholeNumber(typed) {
 }
 
 /**
+ * What to say of what is no such number.
+ * @param {string} typed
+ */
+export function notWhole(typed) {
+    return `expected a whole number, digits alone and at most ${MOST_IN_FIELD}, found “${typed}”`;
+}
+
+/**
  * @param {Hand} hand
  * @param {{label: string, unit: string, attributes: import('../dom.js').Attributes, read: (floor: Floor) => number,
  *     send: (value: number) => void}} what
@@ -35,7 +43,7 @@ export function numberField(hand, { label, unit, attributes, read, send }) {
     input.addEventListener('change', () => {
         const typed = wholeNumber(input.value);
         if (typed === null) {
-            hand.complain(`${label}: expected a whole number, digits alone, found “${input.value}”`);
+            hand.complain(`${label}: ${notWhole(input.value)}`);
         } else if (typed !== read(hand.floor())) {
             send(typed);
         }
@@ -62,6 +70,13 @@ export function choiceField(hand, { label, id, choices, read, send }) {
         refresh(hand.floor());
     });
     return { node: element('label', { class: 'field' }, element('span', { class: 'label' }, label), select), refresh };
+}
+
+/** What is typed in a field and not sent yet is sent, as if the field were left. */
+export function leaveField() {
+    if (document.activeElement instanceof HTMLInputElement) {
+        document.activeElement.blur();
+    }
 }
 
 /**
