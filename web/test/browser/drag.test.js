@@ -92,11 +92,11 @@ test('an x line dragged to the north makes the span below it longer', async () =
     const { page, browser } = seat;
     const grip = await gripOf(browser, 'x', 2);
     await browser.drag('mouse', pathOf('x', grip, 600));
-    await browser.until(() => document.querySelector('g.span[data-way="y"][data-span="1"] text')?.textContent !== '7000');
+    await browser.until(() => document.querySelector('g.span[data-way="y"][data-span="1"] text:not(.bay)')?.textContent !== '7000');
     const floor = floorOf(Uint8Array.from(Buffer.from(await page.bytes(), 'hex')));
     const [, low, high] = floor?.spans.y ?? [];
     assert.ok(low + high === 14000 && Math.abs(low - 7600) <= 1 / grip.factor, `${low} ${high}`);
-    assert.deepEqual(await page.texts('g.span[data-way="y"] text'), [6000, low, high, 6400].map(String));
+    assert.deepEqual(await page.texts('g.span[data-way="y"] text:not(.bay)'), [6000, low, high, 6400].map(String));
 });
 
 /** The east edge so far to the west that its span is too short for its columns, and below what any span may be. */
@@ -124,7 +124,7 @@ test('an inner line dragged past its neighbour is refused, and the last that was
     const { page, browser } = seat;
     const grip = await gripOf(browser, 'y', 3);
     await browser.drag('mouse', pathOf('y', grip, 400, 0, 1), { up: false });
-    await browser.until(() => document.querySelector('g.span[data-way="x"][data-span="2"] text')?.textContent !== '7500');
+    await browser.until(() => document.querySelector('g.span[data-way="x"][data-span="2"] text:not(.bay)')?.textContent !== '7500');
     const accepted = await page.bytes();
     await browser.drag('mouse', pathOf('y', grip, 9000, 400, 1), { down: false });
     await browser.until(() => document.querySelector('#message')?.textContent);

@@ -19,7 +19,7 @@ export function gripOf(browser, way, line) {
         const cross = way === 'x' ? 'y' : 'x';
         const length = way === 'x' ? 'width' : 'height';
         const box = axisOf(line);
-        const spans = Array.from(document.querySelectorAll(`g.span[data-way="${cross}"] text`), (text) => Number(text.textContent));
+        const spans = Array.from(document.querySelectorAll(`g.span[data-way="${cross}"] text:not(.bay)`), (text) => Number(text.textContent));
         const between = Math.abs(axisOf(spans.length)[cross] - axisOf(0)[cross]);
         const factor = between / spans.reduce((sum, span) => sum + span, 0);
         for (let part = 0.5; part < 0.98; part += 0.01) {
