@@ -1,12 +1,14 @@
 //! The page's library held against the reference, in node. Wrong ones in its place are found out.
 
 mod compared;
+mod noticing;
 
-use differ::job::{Calls, Job};
+use differ::job::Calls;
 use differ::page::{calls, can_be_tried, Script, PAGE};
-use differ::work::{parts, Amount};
+use differ::work::Amount;
 use floor::{record, Floor};
 use gandhrumil::Query;
+use noticing::noticed;
 use std::panic::{catch_unwind, AssertUnwindSafe};
 
 #[test]
@@ -134,18 +136,6 @@ const FEW: Amount = Amount {
     queries: 500,
 };
 
-/// What is said of the first difference.
-fn noticed(part: &str, calls: Calls) -> String {
-    let job = Job {
-        calls,
-        ..Job::of_the_library(1)
-    };
-    let mut parts = parts(FEW).into_iter();
-    let part = parts.find(|one| one.name == part).unwrap();
-    let compared = part.compare(&job, 0..part.cases, 1);
-    compared.expect_err("a difference").to_string()
-}
-
 #[test]
 fn wrong_answers() {
     if !can_be_tried() {
@@ -175,7 +165,7 @@ fn wrong_answers() {
         ),
         ("changes", calls::<InTheChangedFloor>(), ": floor: at "),
     ] {
-        let noticed = noticed(part, calls);
+        let noticed = noticed(FEW, part, calls);
         assert!(noticed.contains(words), "{noticed}");
     }
 }
