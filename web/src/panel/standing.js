@@ -1,7 +1,7 @@
 // Whether the floor is clear, and every broken limit with its places, all together.
 
 import { element } from '../dom.js';
-import { brokenLimits } from '../say/limits.js';
+import { brokenLimits, CLEAR_SENTENCE } from '../say/limits.js';
 import { sayPlace } from '../say/places.js';
 
 /** @typedef {import('../judge.js').Judged} Judged */
@@ -15,7 +15,6 @@ const MOST_SAID_PLACES = 8;
 /** So many lines of places leave room for the sentence of every limit. */
 const MOST_OPEN_PLACES = 8;
 
-const CLEAR_WORDS = 'clear: no limit of the Direct Design Method is broken and the slab is thick enough';
 const BROKEN_WORDS = 'not clear: moments stand only on a floor that is clear';
 
 export class StandingView {
@@ -38,7 +37,7 @@ export class StandingView {
     /** @param {Judged} judged */
     show(judged) {
         this.standing.dataset.verdict = String(judged.verdict);
-        this.standing.textContent = judged.verdict === 0 ? CLEAR_WORDS : BROKEN_WORDS;
+        this.standing.textContent = judged.verdict === 0 ? CLEAR_SENTENCE : BROKEN_WORDS;
         const broken = brokenLimits(this.words, judged);
         const lines = broken.reduce((sum, { places }) => sum + Math.min(places.length, MOST_SAID_PLACES), 0);
         this.list.replaceChildren(...broken.map((limit) => this.limitItem(judged, limit, lines <= MOST_OPEN_PLACES)));

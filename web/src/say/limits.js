@@ -4,6 +4,9 @@
 /** @typedef {import('../judge.js').Place} Place */
 /** @typedef {import('./words.js').Words} Words */
 
+/** What is said of a floor with verdict 0. */
+export const CLEAR_SENTENCE = 'clear: no limit of the Direct Design Method is broken and the slab is thick enough';
+
 // 01, "The verdict": "A sum of what is broken".
 const LIMIT_NUMBERS = [1, 2, 4, 8, 16, 32, 64];
 

@@ -1,14 +1,13 @@
 // The fixer's sheet, element for element what `slab sheet --html` writes: of a clear floor every frame, of any other what is broken and no figure.
 
 import { element } from '../dom.js';
-import { brokenLimits } from '../say/limits.js';
+import { brokenLimits, CLEAR_SENTENCE } from '../say/limits.js';
 import { frameSections } from './frames.js';
 
 /** @typedef {import('../floor.js').Floor} Floor */
 /** @typedef {import('../judge.js').Judged} Judged */
 /** @typedef {import('../say/words.js').Words} Words */
 
-const CLEAR_STANDING = 'clear: no limit of the Direct Design Method is broken and the slab is thick enough';
 const BROKEN_STANDING = 'not clear: no moment stands, and nothing may be built from this sheet';
 const SHEET_NOTES = 'Moments in kN·m, rounded up to the next 0.01. Top and bottom say where in the slab the steel lies. Lines, spans and supports '
     + 'count from 0; x lines run west to east, y lines south to north. Column strip: beam and slab together.';
@@ -23,7 +22,7 @@ export function sheetOf(judged, name, date, words) {
 
 /** @param {Judged} judged */
 function clearFloor(judged) {
-    const head = [paragraph('facts', floorFacts(judged.floor)), paragraph('standing', CLEAR_STANDING), paragraph('notes', SHEET_NOTES)];
+    const head = [paragraph('facts', floorFacts(judged.floor)), paragraph('standing', CLEAR_SENTENCE), paragraph('notes', SHEET_NOTES)];
     return [...head, ...frameSections(judged)];
 }
 
