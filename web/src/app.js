@@ -22,7 +22,8 @@ import { SheetView } from './sheet/view.js';
 /** @typedef {import('./panel/picked.js').Picked} Picked */
 /** @typedef {import('./say/words.js').Words} Words */
 
-const LEGEND = 'In each panel its least thickness in mm, and beside each span its bay and its length in mm. A column off its lines is drawn to the east and north.';
+const LEGEND = 'In each panel its least thickness in mm, and beside each span its bay and its length in mm. '
+    + 'A column off its lines is drawn to the east and north.';
 const CROWDED = 'Some numbers have no room here: make the plan larger, or point at what they belong to.';
 
 export class App {
@@ -110,7 +111,6 @@ export class App {
      */
     pick(picked) {
         leaveField();
-        this.say(0, []);
         this.picked = picked;
         if (picked.sort === 'line') {
             this.framed = { way: picked.way, line: picked.number };

@@ -124,3 +124,11 @@ test('a column is come to and moved off its line by the keyboard alone', async (
         floor.offsets[2 * 6 + 1] = [50, 0];
     }));
 });
+
+test('a refusal of what was typed stays in sight when something else is picked', async () => {
+    const { page, browser } = seat;
+    await browser.type('#live', '60000');
+    await browser.click('g.panel[data-i="1"][data-j="1"] rect');
+    assert.equal((await page.message()).refusal, '5');
+    assert.equal(await page.bytes(), hex(GARAGE));
+});
