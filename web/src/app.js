@@ -55,7 +55,7 @@ export class App {
         this.fields = [];
         this.fieldsOf = '';
         this.holdPlan(plan);
-        desk.onChange = () => this.show();
+        desk.onChange = () => this.showChanged();
         byId('fold').addEventListener('click', () => this.fold());
     }
 
@@ -135,9 +135,7 @@ export class App {
      * @param {Refused | null} refused @param {Uint8Array} bytes of the floor that it is about
      */
     tell(refused, bytes) {
-        if (refused === null) {
-            this.say(0, []);
-        } else {
+        if (refused !== null) {
             this.say(refused.refusal, [...this.why(bytes, refused.refusal), 'The floor keeps what it had.']);
         }
     }
@@ -158,6 +156,12 @@ export class App {
     fold() {
         const folds = document.body.classList.toggle('folds-frame');
         byId('fold').setAttribute('aria-pressed', String(folds));
+    }
+
+    /** A refusal stands until the floor is another. */
+    showChanged() {
+        this.say(0, []);
+        this.show();
     }
 
     show() {

@@ -5,6 +5,14 @@ import { drawn } from './dom.js';
 /** @typedef {import('./dom.js').Attributes} Attributes */
 /** @typedef {{node: SVGElement, attributes: Attributes, text: string, turn: number}} Kept */
 
+/**
+ * A tenth of a pixel is as fine as a screen shows.
+ * @param {number} position
+ */
+export function pixel(position) {
+    return Math.round(10 * position) / 10;
+}
+
 export class Drawing {
     constructor() {
         /** @type {Map<string, Kept>} */

@@ -47,6 +47,6 @@ export async function givenFile(file) {
 export function saveAs(name, contents, type) {
     const url = URL.createObjectURL(new Blob([contents], { type }));
     element('a', { href: url, download: name }).click();
-    // The browser has taken it by the time that anything else happens.
+    // The browser may still be reading it.
     setTimeout(() => URL.revokeObjectURL(url), 60000);
 }

@@ -11,6 +11,9 @@
 
 export const RECORD_BYTES = 16;
 
+/** The largest number that a field of a record has room for. */
+export const MOST_NUMBER = 0xffff_ffff;
+
 /** @type {Way[]} */
 export const WAYS = ['x', 'y'];
 
@@ -24,6 +27,23 @@ export const SPAN_KIND = { x: 5, y: 6 };
 export const BEAM_KIND = { x: 7, y: 8 };
 export const LOADS_KIND = 3;
 export const OFFSET_KIND = 9;
+
+/**
+ * "index j(nx+1)+i for column on y line i, x line j"
+ * @param {Pick<Floor, 'spans'>} floor @param {number} i @param {number} j
+ */
+export function columnIndex({ spans }, i, j) {
+    return j * (spans.x.length + 1) + i;
+}
+
+/**
+ * The y line and the x line of a column.
+ * @param {Pick<Floor, 'spans'>} floor @param {number} index
+ */
+export function columnPlace({ spans }, index) {
+    const row = spans.x.length + 1;
+    return { i: index % row, j: Math.floor(index / row) };
+}
 
 /** Of each kind, how many of a, b and c 01 lists. */
 const LISTED = [0, 3, 2, 2, 3, 1, 1, 2, 2, 2];

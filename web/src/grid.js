@@ -28,8 +28,11 @@ function numberIn(id, label) {
 /** @param {string} id @param {string} label */
 function numbersIn(id, label) {
     const numbers = typedIn(id).split(/[\s,]+/).filter((word) => word !== '').map(wholeNumber);
-    if (numbers.length > MOST_BAYS || numbers.includes(null)) {
+    if (numbers.includes(null)) {
         throw new RangeError(`${label}: expected whole numbers with spaces between, found “${typedIn(id)}”`);
+    }
+    if (numbers.length > MOST_BAYS) {
+        throw new RangeError(`${label}: expected at most ${MOST_BAYS} spans, found ${numbers.length}`);
     }
     return /** @type {number[]} */ (numbers);
 }
@@ -56,10 +59,10 @@ function floorInDialog() {
     /** @type {Pair} */
     const beam = typedIn('layout') === 'none' ? [0, 0] : [numberIn('beam-width', 'beam width'), numberIn('beam-depth', 'beam depth')];
     return {
-        t: numberIn('slab', 'slab'),
-        fc: numberIn('concrete', 'concrete'),
-        fy: numberIn('steel', 'steel'),
-        dead: numberIn('dead', 'dead load'),
+        t: numberIn('slab', 'slab thickness'),
+        fc: numberIn('concrete', 'concrete, fc'),
+        fy: numberIn('steel', 'steel, fy'),
+        dead: numberIn('dead', 'dead load, slab included'),
         live: numberIn('live', 'live load'),
         cx: numberIn('cx', 'columns along x'),
         cy: numberIn('cy', 'columns along y'),
@@ -70,17 +73,23 @@ function floorInDialog() {
     };
 }
 
+/** The floor that the dialog says, or what in it is no number. */
+function floorOrWords() {
+    try {
+        return floorInDialog();
+    } catch (trouble) {
+        if (trouble instanceof RangeError) {
+            return trouble.message;
+        }
+        throw trouble;
+    }
+}
+
 /** @param {(bytes: Uint8Array) => string[]} open what is wrong with the floor, or nothing where it is open now */
 export function askForGrid(open) {
     const make = () => {
-        try {
-            return open(bytesOf(floorInDialog()));
-        } catch (trouble) {
-            if (trouble instanceof RangeError) {
-                return [trouble.message];
-            }
-            throw trouble;
-        }
+        const said = floorOrWords();
+        return typeof said === 'string' ? [said] : open(bytesOf(said));
     };
     holdDialog({ button: 'new', dialog: 'grid', begin: () => {}, make });
 }

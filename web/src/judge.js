@@ -70,3 +70,11 @@ function placesOf(library, bytes) {
         return { limit, way: way === 0 ? 'x' : 'y', i, j };
     });
 }
+
+/**
+ * The one of i and j that counts along the place's direction.
+ * @param {Place} place
+ */
+export function countAlong({ way, i, j }) {
+    return way === 'x' ? i : j;
+}

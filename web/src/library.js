@@ -9,7 +9,7 @@ export const PLACES_LEN = 3172;
 
 const PAGE_BYTES = 65536;
 
-/** Bytes may start anywhere; where numbers stand is a multiple of 4, and so is what is kept between two buffers. */
+/** Numbers must start at a multiple of 4; so many bytes are also left free between two buffers. */
 const GAP_BYTES = 16;
 
 /** @param {bigint} answer two numbers of 32 bits, the refusal below. @returns {Answer} */

@@ -35,9 +35,7 @@ async function openFile(app, file) {
         return;
     }
     const refused = app.desk.open(given.bytes, nameOfFile(file.name));
-    if (refused === null) {
-        app.say(0, []);
-    } else {
+    if (refused !== null) {
         const [reason, ...culprits] = app.why(given.bytes, refused.refusal);
         app.say(refused.refusal, [`${file.name}: ${reason}`, ...culprits, 'What was open stays.']);
     }
@@ -98,15 +96,9 @@ function holdKeys() {
 
 /** @param {App} app */
 function holdButtons(app) {
-    /** @param {string} id @param {() => void} act */
-    const hold = (id, act) =>
-        byId(id).addEventListener('click', () => {
-            app.say(0, []);
-            act();
-        });
-    hold('undo', () => app.desk.undo());
-    hold('redo', () => app.desk.redo());
-    hold('example', () => app.desk.open(decoded(builtIn('garage')), EXAMPLE_NAME));
+    byId('undo').addEventListener('click', () => app.desk.undo());
+    byId('redo').addEventListener('click', () => app.desk.redo());
+    byId('example').addEventListener('click', () => app.desk.open(decoded(builtIn('garage')), EXAMPLE_NAME));
     /** @param {string} [name] */
     const opens = (name) => (/** @type {Uint8Array} */ bytes) => {
         const refused = app.desk.open(bytes, name);

@@ -4,7 +4,6 @@ import { WAYS, across } from '../src/floor.js';
 
 /** @typedef {import('../src/floor.js').Floor} Floor */
 /** @typedef {import('../src/floor.js').Pair} Pair */
-/** @typedef {import('../src/floor.js').Way} Way */
 
 const MOST = 0xffff_ffff;
 

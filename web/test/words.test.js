@@ -14,7 +14,6 @@ import { readWords } from '../src/say/words.js';
 import { Draw, drawAccepted, drawAny } from './draw.js';
 import { slab } from './slab.js';
 
-/** @typedef {import('../src/floor.js').Floor} Floor */
 /** @typedef {import('../src/judge.js').Judged} Judged */
 
 /** @param {string} path from the repository's root */

@@ -1,13 +1,14 @@
 // The moments of a frame drawn: for each part a curve through the three sections of each span, top steel above the axis, bottom steel below.
 
 import { drawn, setAttributes } from '../dom.js';
+import { pixel } from '../drawing.js';
 import { PARTS, SECTIONS } from '../table.js';
 import { footLabels, marginLabels, scaleLabels } from './captions.js';
 import { valueLabels } from './labels.js';
 import { fillLayer } from './layers.js';
 import { DiagramLegend } from './legend.js';
 import { layoutOf } from './layout.js';
-import { curvePaths, pixel, scalePaths, supportPaths } from './paths.js';
+import { curvePaths, scalePaths, supportPaths } from './paths.js';
 
 /** @typedef {import('./frame.js').Frame} Frame */
 /** @typedef {import('./labels.js').Label} Label */

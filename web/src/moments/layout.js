@@ -58,7 +58,7 @@ const N_CM_OF_KNM = 100000;
  * The scale's step in kN·m, of 1, 2 or 5 and zeros, so that its numbers do not touch.
  * @param {Layout} layout
  */
-export function tickStep({ unit }) {
+function tickStep({ unit }) {
     const least = LEAST_TICK_PIXELS / (unit * N_CM_OF_KNM);
     const decade = 10 ** Math.floor(Math.log10(least));
     return [1, 2, 5, 10].map((step) => step * decade).find((step) => step >= least) ?? 10 * decade;

@@ -1,5 +1,6 @@
 // The lines of a diagram as paths: curves and dots of each part, columns, dimension line, scale.
 
+import { pixel } from '../drawing.js';
 import { SCALE_GAP, pointsOf, ticksOf } from './layout.js';
 
 /** @typedef {import('./frame.js').Frame} Frame */
@@ -7,14 +8,6 @@ import { SCALE_GAP, pointsOf, ticksOf } from './layout.js';
 /** @typedef {import('./layout.js').Point} Point */
 /** @typedef {import('./layout.js').SpanPoints} SpanPoints */
 /** @typedef {import('../table.js').Section} Section */
-
-/**
- * A tenth of a pixel is enough.
- * @param {number} position
- */
-export function pixel(position) {
-    return Math.round(10 * position) / 10;
-}
 
 /** @param {Point} point */
 function pixels({ x, y }) {

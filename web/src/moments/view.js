@@ -1,7 +1,6 @@
 // The moments of one frame, picked from a list, drawn and as numbers. On a floor that is not clear none of it is in the page, nor kept for later.
 
 import { element } from '../dom.js';
-import { linesOf } from '../table.js';
 import { FrameDiagram } from './diagram.js';
 import { frameOf } from './frame.js';
 import { frameName } from './names.js';
@@ -82,12 +81,8 @@ class FrameShown {
         return [head, this.diagram.legend.list, this.diagram.drawing, note, this.tables.units, tables];
     }
 
-    /**
-     * A line that the floor lacks gives the last one, as the list then says.
-     * @param {Judged} judged @param {Picked} picked @param {number} width
-     */
-    show(judged, { way, line: asked }, width) {
-        const line = Math.min(asked, linesOf(judged.floor, way) - 1);
+    /** @param {Judged} judged @param {Picked} picked @param {number} width */
+    show(judged, { way, line }, width) {
         this.name = frameName(judged.floor, way, line);
         this.frame = frameOf(judged, way, line);
         this.pick.show(judged.floor, { way, line });

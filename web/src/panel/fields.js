@@ -1,6 +1,7 @@
 // Fields for the floor's numbers. What is typed is sent by Enter or by leaving the field; the field then shows what the floor has.
 
 import { element } from '../dom.js';
+import { MOST_NUMBER } from '../floor.js';
 
 /** @typedef {import('../floor.js').Floor} Floor */
 /**
@@ -9,16 +10,13 @@ import { element } from '../dom.js';
  */
 /** @typedef {{node: HTMLElement, refresh: (floor: Floor) => void}} Field */
 
-/** The largest number that a record has room for. */
-const MOST_IN_FIELD = 4294967295;
-
 /**
  * A whole number in digits, or null.
  * @param {string} typed
  */
 export function wholeNumber(typed) {
     const digits = typed.trim();
-    return /^\d+$/.test(digits) && Number(digits) <= MOST_IN_FIELD ? Number(digits) : null;
+    return /^\d+$/.test(digits) && Number(digits) <= MOST_NUMBER ? Number(digits) : null;
 }
 
 /**
@@ -26,7 +24,7 @@ export function wholeNumber(typed) {
  * @param {string} typed
  */
 export function notWhole(typed) {
-    return `expected a whole number, digits alone and at most ${MOST_IN_FIELD}, found “${typed}”`;
+    return `expected a whole number, digits alone and at most ${MOST_NUMBER}, found “${typed}”`;
 }
 
 /**

@@ -1,7 +1,7 @@
 // What is picked in the plan, with the fields that change it.
 
 import { element } from '../dom.js';
-import { across, BEAM_KIND, OFFSET_KIND, recordOf, SPAN_KIND } from '../floor.js';
+import { across, BEAM_KIND, columnIndex, OFFSET_KIND, recordOf, SPAN_KIND } from '../floor.js';
 import { columnKey, lineKey, panelKey, spanKey } from '../plan/marks.js';
 import { headingField, numberField } from './fields.js';
 
@@ -33,13 +33,13 @@ export function keyOfPicked(picked) {
 export function isThere({ spans, beams }, picked) {
     switch (picked.sort) {
         case 'panel':
-            return picked.i < spans.x.length && picked.j < spans.y.length;
+            return picked.i in spans.x && picked.j in spans.y;
         case 'column':
-            return picked.i <= spans.x.length && picked.j <= spans.y.length;
+            return picked.i in beams.y && picked.j in beams.x;
         case 'line':
-            return picked.number < beams[picked.way].length;
+            return picked.number in beams[picked.way];
         case 'span':
-            return picked.number < spans[picked.way].length;
+            return picked.number in spans[picked.way];
     }
 }
 
@@ -91,7 +91,7 @@ function pairFields(hand, kind, index, read, named) {
 
 /** @param {Hand} hand @param {{i: number, j: number}} column */
 function columnFields(hand, { i, j }) {
-    const index = j * (hand.floor().spans.x.length + 1) + i;
+    const index = columnIndex(hand.floor(), i, j);
     const fields = pairFields(hand, OFFSET_KIND, index, (floor) => floor.offsets[index], [
         ['off its line along x', 'offset-x'],
         ['off its line along y', 'offset-y'],

@@ -9,7 +9,7 @@ import { choiceField, headingField, numberField } from './fields.js';
 /** @typedef {import('./fields.js').Hand} Hand */
 
 /** "fy 280, 420 or 520" */
-export const GRADES = [280, 420, 520];
+const GRADES = [280, 420, 520];
 
 /** @param {Hand} hand @returns {Field[]} */
 export function wholeFields(hand) {

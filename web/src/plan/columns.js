@@ -1,5 +1,6 @@
 // The columns where they stand. A floor file has how far a column is off its lines and not to which side: it is drawn to the east and to the north.
 
+import { columnPlace } from '../floor.js';
 import { columnKey } from './marks.js';
 
 /** @typedef {import('./paper.js').Paper} Paper */
@@ -8,9 +9,10 @@ const LEAST_COLUMN = 4;
 
 /** @param {Paper} paper */
 export function drawColumns(paper) {
-    const { floor } = paper;
-    const row = floor.spans.x.length + 1;
-    floor.offsets.forEach((offset, index) => drawColumn(paper, index % row, Math.floor(index / row), offset));
+    paper.floor.offsets.forEach((offset, index) => {
+        const { i, j } = columnPlace(paper.floor, index);
+        drawColumn(paper, i, j, offset);
+    });
 }
 
 /** @param {Paper} paper @param {number} i @param {number} j @param {import('../floor.js').Pair} offset */

@@ -91,8 +91,9 @@ function holdByPointer(svg, desktop) {
             return;
         }
         svg.setPointerCapture(event.pointerId);
-        grip = new Grip(event, line, desktop);
+        // Picked first: what was typed in a field is sent by it, and the line is held on the floor that this makes.
         desktop.pick(line);
+        grip = new Grip(event, line, desktop);
     });
     /**
      * A second finger moves nothing.

@@ -76,7 +76,7 @@ function drawLine(paper, way, line, { radius, away, hold }) {
     const { drawing, layers, floor } = paper;
     const key = lineKey(way, line);
     const [width, depth] = floor.beams[way][line];
-    const beam = { class: width === 0 ? 'beam none' : 'beam', 'stroke-width': width === 0 ? 0 : Math.max(paper.scale.length(width), LEAST_BEAM) };
+    const beam = { class: 'beam', 'stroke-width': width === 0 ? 0 : Math.max(paper.scale.length(width), LEAST_BEAM) };
     const bubble = BUBBLE_PLACE[way] - away;
     const group = drawing.put(key, layers.lines, 'g', { class: paper.classes(`line along-${way}`, key), ...spokenLine(paper, way, line) });
     drawing.put(`${key} title`, group, 'title', {}, `${key}: ${width === 0 ? 'no beam' : `beam ${width} by ${depth} mm`}`);

@@ -1,5 +1,7 @@
 // Which parts of the plan the library's places name: what a place of each limit is, the header says.
 
+import { countAlong } from '../judge.js';
+
 /** @typedef {import('../judge.js').Place} Place */
 /** @typedef {import('../floor.js').Way} Way */
 
@@ -10,7 +12,8 @@ const OF_PANELS = [2, 32, 64];
  * Everything in the plan has a key, and a place names some of them.
  * @param {Place} place @param {Record<Way, number[]>} spans
  */
-export function keysOf({ limit, way, i, j }, spans) {
+export function keysOf(place, spans) {
+    const { limit, way, i, j } = place;
     if (OF_PANELS.includes(limit)) {
         return [panelKey(i, j)];
     }
@@ -18,7 +21,7 @@ export function keysOf({ limit, way, i, j }, spans) {
         case 1:
             return spans[way].map((_, span) => spanKey(way, span));
         case 4:
-            return [spanKey(way, i + j), spanKey(way, i + j + 1)];
+            return [0, 1].map((next) => spanKey(way, countAlong(place) + next));
         case 8:
             return [columnKey(i, j)];
         default:

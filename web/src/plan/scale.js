@@ -1,5 +1,6 @@
 // Where millimetres of the floor lie on the screen: to scale, north up.
 
+import { pixel } from '../drawing.js';
 import { across } from '../floor.js';
 
 /** @typedef {import('../floor.js').Floor} Floor */
@@ -9,10 +10,10 @@ import { across } from '../floor.js';
 export const MARGIN = { left: 62, top: 58, right: 77, bottom: 75 };
 
 /**
- * The distance of each line from the first one across it, with the last.
+ * How far each line is from the first: from 0 to the whole length.
  * @param {number[]} spans
  */
-export function stations(spans) {
+function stations(spans) {
     const places = [0];
     for (const span of spans) {
         places.push(places[places.length - 1] + span);
@@ -36,26 +37,18 @@ export class Scale {
      * @param {number} mm
      */
     x(mm) {
-        return rounded(this.left + mm * this.factor);
+        return pixel(this.left + mm * this.factor);
     }
 
     /** @param {number} mm */
     y(mm) {
-        return rounded(this.bottom - mm * this.factor);
+        return pixel(this.bottom - mm * this.factor);
     }
 
     /** @param {number} mm */
     length(mm) {
-        return rounded(mm * this.factor);
+        return pixel(mm * this.factor);
     }
-}
-
-/**
- * A tenth of a pixel is as fine as a screen shows.
- * @param {number} pixels
- */
-function rounded(pixels) {
-    return Math.round(pixels * 10) / 10;
 }
 
 /**

@@ -1,5 +1,8 @@
 // The places where a limit is broken, in words with the floor's numbers that break it.
 
+import { columnIndex } from '../floor.js';
+import { countAlong } from '../judge.js';
+
 /** @typedef {import('../floor.js').Floor} Floor */
 /** @typedef {import('../floor.js').Way} Way */
 /** @typedef {import('../judge.js').Judged} Judged */
@@ -53,7 +56,7 @@ function sayNeighbours({ floor }, place) {
 /** @param {Judged} judged @param {Place} place */
 function sayColumn({ floor }, place) {
     const { way, i, j } = place;
-    const [alongX, alongY] = floor.offsets[j * (floor.spans.x.length + 1) + i];
+    const [alongX, alongY] = floor.offsets[columnIndex(floor, i, j)];
     const line = countAlong(place);
     const beside = [line - 1, line].filter((span) => span in floor.spans[way]);
     const lengths = beside.map((span) => floor.spans[way][span]);
@@ -77,14 +80,6 @@ function sayUnequalPanel({ floor }, place) {
 /** @param {Judged} judged @param {Place} place */
 function sayThinPanel({ floor, least }, place) {
     return `${panelNamed(place)}: ${least[place.j][place.i]} mm needed, slab ${floor.t}`;
-}
-
-/**
- * The one of i and j that counts along the place's direction.
- * @param {Place} place
- */
-function countAlong({ way, i, j }) {
-    return way === 'x' ? i : j;
 }
 
 /** @param {Place} place */

@@ -1,6 +1,6 @@
 // A refusal in words, and the record that it is about in the words of a text.
 
-import { readRecord } from '../floor.js';
+import { columnPlace, readRecord } from '../floor.js';
 import { writtenSides } from '../text/sides.js';
 
 /** @typedef {import('../floor.js').Floor} Floor */
@@ -23,7 +23,7 @@ export function sayRefusal(words, number) {
  */
 export function sayRecord(floor, record) {
     const { kind, index, fields: [a, b, c] } = readRecord(record);
-    const columns = floor.spans.x.length + 1;
+    const { i, j } = columnPlace(floor, index);
     switch (kind) {
         case 2: return `concrete ${a}, steel ${b}`;
         case 3: return `dead ${a}, live ${b}`;
@@ -32,7 +32,7 @@ export function sayRecord(floor, record) {
         case 6: return `y span ${index} of ${a} mm`;
         case 7: return `x line ${index} beam ${a} ${b}`;
         case 8: return `y line ${index} beam ${a} ${b}`;
-        case 9: return `column ${index % columns} ${Math.floor(index / columns)} offset ${a} ${b}`;
+        case 9: return `column ${i} ${j} offset ${a} ${b}`;
         default: return `${a} by ${b} bays, slab ${c}`;
     }
 }

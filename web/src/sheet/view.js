@@ -8,7 +8,7 @@ import { sheetOf } from './sheet.js';
 /** @typedef {import('../say/words.js').Words} Words */
 
 /** Today where the page is open, as 2026-11-16. */
-export function today() {
+function today() {
     const now = new Date();
     const two = (/** @type {number} */ number) => String(number).padStart(2, '0');
     return `${now.getFullYear()}-${two(now.getMonth() + 1)}-${two(now.getDate())}`;
@@ -37,7 +37,9 @@ export class SheetView {
 
     /** @param {boolean} printed */
     print(printed) {
-        leaveField();
+        if (printed) {
+            leaveField();
+        }
         this.printed = printed;
         this.show();
     }

@@ -1,6 +1,6 @@
 // One line of a text, word by word.
 
-const MOST_NUMBER = 0xffff_ffff;
+import { MOST_NUMBER } from '../floor.js';
 
 // 40 letters have at most 80 units.
 const LETTERS_SHOWN = 40;

@@ -1,5 +1,6 @@
 // A floor into its text, in one fixed form.
 
+import { columnPlace } from '../floor.js';
 import { TEXT_FORMS } from './forms.js';
 
 /** @typedef {import('../floor.js').Floor} Floor */
@@ -46,7 +47,9 @@ function beamLines(floor, way) {
 
 /** @param {Floor} floor */
 function offsetLines(floor) {
-    const columns = floor.spans.x.length + 1;
-    const key = (/** @type {number} */ number) => `column ${number % columns} ${Math.floor(number / columns)} offset`;
+    const key = (/** @type {number} */ number) => {
+        const { i, j } = columnPlace(floor, number);
+        return `column ${i} ${j} offset`;
+    };
     return notedPairs(floor.offsets, key, 'column on y line, x line; off along x, along y');
 }

@@ -22,7 +22,13 @@ test('nothing is asked for beside the file', async () => {
 
 test('no line of the page is left to be filled by the build', async () => {
     const text = Buffer.from(kept(join(BUILT, 'slab.html'))).toString('utf8');
-    assert.doesNotMatch(text, /<!-- (styles|script|library|garage|words)/);
+    assert.doesNotMatch(text, /<!-- (policy|styles|script|library|garage|words)/);
+});
+
+test('the policy allows one script and the styles, by their digests, and nothing else', () => {
+    const text = Buffer.from(kept(join(BUILT, 'slab.html'))).toString('utf8');
+    const digest = "'sha256-[A-Za-z0-9+/]{43}='";
+    assert.match(text, new RegExp(`Content-Security-Policy" content="default-src 'none'; style-src ${digest}; script-src ${digest} 'wasm-unsafe-eval'">`));
 });
 
 test('every field and every button has a name', async () => {

@@ -9,7 +9,6 @@ import { morning } from './morning.js';
 import { GARAGE, pageOfTests, ROOT } from './page.js';
 
 /** @typedef {import('../../src/floor.js').Floor} Floor */
-/** @typedef {import('../../src/floor.js').Way} Way */
 
 const seat = pageOfTests();
 

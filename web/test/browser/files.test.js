@@ -7,7 +7,8 @@ import { setTimeout } from 'node:timers/promises';
 import { beforeEach, test } from 'node:test';
 import { garageWith } from './floors.js';
 import { morning } from './morning.js';
-import { GARAGE, hex, kept, pageOfTests, slab, wordsOf } from './page.js';
+import { GARAGE, hex, kept, pageOfTests, wordsOf } from './page.js';
+import { slab } from '../slab.js';
 
 const seat = pageOfTests();
 beforeEach(() => seat.page.fresh());

@@ -5,7 +5,7 @@ import { existsSync, readFileSync } from 'node:fs';
 import { join } from 'node:path';
 import { beforeEach, test } from 'node:test';
 import { setTimeout } from 'node:timers/promises';
-import { bytesOf } from '../../src/floor.js';
+import { bytesOf, floorOf } from '../../src/floor.js';
 import { garageWith } from './floors.js';
 import { gripOf, pathOf } from './lines.js';
 import { GARAGE, hex, pageOfTests } from './page.js';
@@ -131,4 +131,39 @@ test('a refusal of what was typed stays in sight when something else is picked',
     await browser.click('g.panel[data-i="1"][data-j="1"] rect');
     assert.equal((await page.message()).refusal, '5');
     assert.equal(await page.bytes(), hex(GARAGE));
+});
+
+test('a number that is typed and not sent yet is sent, and the line that is dragged then moves', async () => {
+    const { page, browser } = seat;
+    const grip = await gripOf(browser, 'y', 2);
+    await browser.type('#live', '9000');
+    await browser.drag('mouse', pathOf('y', grip, 400, 0, 4));
+    await browser.until((/** @type {string} */ heavy) => {
+        const bytes = Array.from(/** @type {any} */ (window).slab.bytes(), (/** @type {number} */ byte) => byte.toString(16).padStart(2, '0')).join('');
+        return bytes !== heavy;
+    }, HEAVY);
+    const { live, spans } = floorOf(Uint8Array.from(Buffer.from(await page.bytes(), 'hex'))) ?? assert.fail('no floor');
+    assert.deepEqual([live, spans.x[1] + spans.x[2]], [9000, 14700]);
+    assert.ok(Math.abs(spans.x[1] - 7600) <= 1 / grip.factor, `${spans.x}`);
+});
+
+test('the arrow keys do not leave the floor', async () => {
+    const { page, browser } = seat;
+    for (const [sort, heading] of [['panel', 'Panel of x bay 0, y bay 0'], ['column', 'Column on y line 0, x line 0']]) {
+        await browser.run((found) => /** @type {SVGElement} */ (document.querySelector(found)).focus(), `g.${sort}[tabindex="0"]`);
+        await browser.press('Enter');
+        await browser.run((found) => /** @type {SVGElement} */ (document.querySelector(found)).focus(), `g.${sort}[tabindex="0"]`);
+        await browser.press('Left', 'Down', 'Left');
+        assert.deepEqual(await page.texts('#picked h2'), [heading]);
+        assert.equal(await page.count(`g.${sort}[tabindex="0"]`), 1);
+    }
+});
+
+test('a refusal is gone when the floor is another', async () => {
+    const { page, browser } = seat;
+    await browser.type('#live', '60000\uE007');
+    assert.equal((await page.message()).refusal, '5');
+    await browser.click('#new');
+    await browser.click('#grid-make');
+    assert.deepEqual(await page.message(), { refusal: '', words: '' });
 });

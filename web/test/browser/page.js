@@ -1,7 +1,7 @@
 // The page as it is built, opened from the disk in a browser of its own, and what the tests ask of it again and again.
 
 import assert from 'node:assert/strict';
-import { execFileSync, spawnSync } from 'node:child_process';
+import { execFileSync } from 'node:child_process';
 import { existsSync, mkdirSync, mkdtempSync, readFileSync, rmSync, writeFileSync } from 'node:fs';
 import { tmpdir } from 'node:os';
 import { join } from 'node:path';
@@ -34,15 +34,6 @@ export function kept(path) {
 }
 
 export const GARAGE = kept('example/garage.floor');
-
-/**
- * Runs `slab`, whatever its status.
- * @param {string[]} words @param {Uint8Array} [input]
- */
-export function slab(words, input) {
-    const { stdout, stderr, status } = spawnSync(made('target/host/release/slab', `${BUILD} -p slab`), words, { input, maxBuffer: 2 ** 28 });
-    return { stdout, stderr: String(stderr), status };
-}
 
 /**
  * What the independent implementation prints.

@@ -5,7 +5,8 @@ import { test } from 'node:test';
 import { pathToFileURL } from 'node:url';
 import { garageWith } from './floors.js';
 import { morning } from './morning.js';
-import { GARAGE, pageOfTests, slab } from './page.js';
+import { GARAGE, pageOfTests } from './page.js';
+import { slab } from '../slab.js';
 
 const seat = pageOfTests();
 

@@ -5,7 +5,8 @@ import { readFileSync } from 'node:fs';
 import { join } from 'node:path';
 import { beforeEach, test } from 'node:test';
 import { morning } from './morning.js';
-import { GARAGE, hex, pageOfTests, slab, wordsOf } from './page.js';
+import { GARAGE, hex, pageOfTests, wordsOf } from './page.js';
+import { slab } from '../slab.js';
 
 const seat = pageOfTests();
 beforeEach(() => seat.page.fresh());
