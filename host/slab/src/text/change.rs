@@ -25,10 +25,8 @@ impl Change {
     /// The record to put into this floor. Of the loads it keeps the one that is not given.
     pub fn record(self, floor: &Floor) -> Record {
         let (kind, index, [a, b]) = match self {
-            Change::Span(Way::X, index, length) => (5, index, [length, 0]),
-            Change::Span(Way::Y, index, length) => (6, index, [length, 0]),
-            Change::Beam(Way::X, index, (width, depth)) => (7, index, [width, depth]),
-            Change::Beam(Way::Y, index, (width, depth)) => (8, index, [width, depth]),
+            Change::Span(way, index, length) => (5 + way as u16, index, [length, 0]),
+            Change::Beam(way, index, (width, depth)) => (7 + way as u16, index, [width, depth]),
             Change::Offset(lines, (x, y)) => (9, column(floor, lines), [x, y]),
             Change::Dead(dead) => (3, 0, [dead, floor.live]),
             Change::Live(live) => (3, 0, [floor.dead, live]),
