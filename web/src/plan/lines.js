@@ -58,7 +58,8 @@ function stretch(paper, way, line, before, after) {
  * @param {Paper} paper @param {Way} way @param {number} line
  */
 function spokenLine(paper, way, line) {
-    const mm = paper.mm[way][line];
+    const lines = paper.mm[way];
+    const mm = lines[line];
     const arrows = across(way) === 'x' ? 'east and west' : 'north and south';
     return {
         'data-way': way,
@@ -66,7 +67,9 @@ function spokenLine(paper, way, line) {
         tabindex: 0,
         role: 'slider',
         'aria-label': `${lineKey(way, line)}, moved ${arrows} by the arrow keys`,
+        'aria-valuemin': lines[line - 1] ?? mm,
         'aria-valuenow': mm,
+        'aria-valuemax': lines[line + 1] ?? mm,
         'aria-valuetext': `${mm} mm`,
     };
 }
