@@ -5,6 +5,7 @@ pub mod draw;
 pub mod figures;
 pub mod floors;
 pub mod garage;
+pub mod morning;
 pub mod places;
 pub mod program;
 pub mod queries;

@@ -1,5 +1,5 @@
 use cases::garage::garage;
-use cases::{figures, refusals};
+use cases::{figures, morning, refusals};
 use reference::sheet::{line, sheet};
 use reference::steel::{answer, Query};
 use reference::verdict::judged;
@@ -18,7 +18,10 @@ const USAGE: &str = "usage:
   cases figures DIR   write the floors of the figures that are run to DIR/stdin, and every figure's
                       line to DIR/stdout
   cases steel M B T D FC FY
-                      print refusal and area of a steel query";
+                      print refusal and area of a steel query
+  cases morning SEED COUNT
+                      draw a clear floor and so many changes of it from the seed; print their bytes
+                      and after each its refusal and verdict, the table and the governing slice";
 
 fn print_list() -> io::Result<()> {
     let mut stdout = io::stdout().lock();
@@ -45,6 +48,12 @@ fn print_steel(words: [&str; 6]) -> io::Result<()> {
     io::stdout().write_all(line(&[refused, area]).as_bytes())
 }
 
+fn print_morning(seed: &str, count: &str) -> io::Result<()> {
+    let seed = seed.parse().map_err(io::Error::other)?;
+    let count = count.parse().map_err(io::Error::other)?;
+    io::stdout().write_all(morning::text(seed, count).as_bytes())
+}
+
 /// Reads a floor from standard input and prints the text of it.
 fn print_of_floor(text: fn(&[u8]) -> String) -> io::Result<()> {
     let mut floor = Vec::new();
@@ -65,6 +74,7 @@ fn main() -> ExitCode {
         ["sheet"] => print_of_floor(sheet),
         ["garage"] => write_garage(),
         ["figures", folder] => write_figures(Path::new(folder)),
+        ["morning", seed, count] => print_morning(seed, count),
         ["steel", m, b, t, d, fc, fy] => print_steel([m, b, t, d, fc, fy]),
         _ => {
             eprintln!("{USAGE}");

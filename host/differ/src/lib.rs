@@ -9,6 +9,7 @@ pub mod clear;
 pub mod floors;
 pub mod job;
 pub mod lent;
+pub mod page;
 pub mod panels;
 pub mod places;
 pub mod report;

@@ -1,5 +1,6 @@
-use differ::job::Job;
+use differ::job::{Job, LIBRARY};
 use differ::lent::Room;
+use differ::page::{self, Lacking, PAGE};
 use differ::report::{grouped, report};
 use differ::tally::Tally;
 use differ::variety;
@@ -9,10 +10,12 @@ use std::process::ExitCode;
 use std::time::Instant;
 
 const USAGE: &str = "usage: differ short|long|valgrind [SEED]
+       differ short|long page [SEED]
   compares the static library with the independent implementation, on what is drawn from SEED, or from 1
   short      what cargo test compares
   long       200,000 floors, 1,000,000 changes, 1,000,000 steel queries, on two threads
   valgrind   few, in buffers that have nothing after their end, for a run under valgrind
+  page       in the static library's place the page's, in node; ./page builds it
 prints what was compared and '0 differences'; at a difference what it is, and exits with 1";
 
 struct Run {
@@ -74,28 +77,73 @@ fn lacking(run: &Run, tally: &Tally) -> Vec<String> {
     }
 }
 
+/// What the words of the command ask for.
+struct Asked {
+    run: Run,
+    /// Whether the page's library stands in the static one's place.
+    page: bool,
+    seed: u64,
+}
+
+fn asked(words: &[String]) -> Option<Asked> {
+    let (name, words) = words.split_first()?;
+    let run = run(name)?;
+    let (page, words) = match words {
+        // Valgrind does not see into node.
+        [page, words @ ..] if page == "page" && name != "valgrind" => (true, words),
+        _ => (false, words),
+    };
+    let seed = match words {
+        [] => 1,
+        [seed] => seed.parse().ok()?,
+        _ => return None,
+    };
+    Some(Asked { run, page, seed })
+}
+
+impl Asked {
+    fn job(&self) -> Job {
+        Job {
+            seed: self.seed,
+            room: self.run.room,
+            calls: if self.page { PAGE } else { LIBRARY },
+        }
+    }
+
+    fn lacking(&self) -> Option<Lacking> {
+        self.page.then(page::lacking).flatten()
+    }
+
+    fn heading(&self) -> String {
+        let library = if self.page {
+            ", the page's library"
+        } else {
+            ""
+        };
+        format!("seed {}{library}\n", self.seed)
+    }
+}
+
 fn main() -> ExitCode {
     let words: Vec<String> = env::args().skip(1).collect();
-    let seed = words.get(1).map_or(Ok(1), |seed| seed.parse());
-    let (Some(run), Ok(seed), ..=2) = (words.first().and_then(|name| run(name)), seed, words.len())
-    else {
+    let Some(asked) = asked(&words) else {
         eprintln!("{USAGE}");
         return ExitCode::from(2);
     };
-    let job = Job {
-        room: run.room,
-        ..Job::of_the_library(seed)
-    };
-    let tally = match compare(&job, &run) {
+    if let Some(lacking) = asked.lacking() {
+        eprintln!("{}", lacking.words());
+        return ExitCode::from(2);
+    }
+    let tally = match compare(&asked.job(), &asked.run) {
         Ok(tally) => tally,
         Err(difference) => {
             println!("{difference}");
             return ExitCode::FAILURE;
         }
     };
-    print!("seed {seed}\n{}", report(&tally));
+    print!("{}{}", asked.heading(), report(&tally));
     println!("0 differences");
-    let lacking = lacking(&run, &tally);
+    let lacking = lacking(&asked.run, &tally);
     for words in &lacking {
         println!("never came up: {words}");
     }

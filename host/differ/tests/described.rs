@@ -1,20 +1,25 @@
-//! The inputs that are described one by one: the library held against the reference on each.
+//! The inputs that are described one by one: the library, and the page's, held against the reference on each.
 
 use cases::draw::Draw;
 use cases::runs::tables::any_numbers;
 use cases::runs::Run;
 use differ::case::Case;
-use differ::job::Job;
+use differ::job::{Calls, Job, LIBRARY};
+use differ::page::{can_be_tried, PAGE};
 use differ::tally::Tally;
 use differ::{floors, runs, steel};
 
 /// Compares each with a description.
 fn compare_all<T>(
+    calls: Calls,
     described: &[T],
     description: fn(&T) -> &str,
     compare: impl Fn(&mut Case, &T) -> Result<(), String>,
 ) -> Tally {
-    let job = Job::of_the_library(1);
+    let job = Job {
+        calls,
+        ..Job::of_the_library(1)
+    };
     let mut tally = Tally::default();
     let mut case = Case {
         job: &job,
@@ -29,12 +34,12 @@ fn compare_all<T>(
 }
 
 /// Up to 1,000,016 bytes.
-#[test]
-fn floors_and_inputs_longer_than_any_floor() {
+fn floors_and_inputs_longer_than_any_floor(calls: Calls) {
     let mut described = cases::floors::all();
     described.extend(cases::floors::single::floors());
     described.extend(cases::floors::long::inputs());
     let tally = compare_all(
+        calls,
         &described,
         |floor| &floor.description,
         |case, floor| floors::undamaged(case, "described", &floor.bytes),
@@ -45,10 +50,10 @@ fn floors_and_inputs_longer_than_any_floor() {
 }
 
 /// Each floor file is opened, with room enough for any table and slice, then changed where a change comes with it.
-#[test]
-fn cases_of_every_refusal() {
+fn cases_of_every_refusal(calls: Calls) {
     let described = cases::refusals::all();
     let tally = compare_all(
+        calls,
         &described,
         |listed| &listed.description,
         |case, listed| {
@@ -72,23 +77,49 @@ fn cases_of_every_refusal() {
     assert_eq!(tally.places.total(), tally.clear.total());
 }
 
-#[test]
-fn changes() {
+fn changes(calls: Calls) {
     let described = cases::runs::all();
-    let tally = compare_all(&described, |run| &run.description, runs::replay);
+    let tally = compare_all(calls, &described, |run| &run.description, runs::replay);
     let changes: usize = described.iter().map(|run| run.changes.len()).sum();
     assert_eq!(tally.changes.total(), changes as u64);
     assert!(tally.clear.total() > changes as u64);
     assert_eq!(tally.places.total(), tally.clear.total());
 }
 
-#[test]
-fn steel_queries() {
+fn steel_queries(calls: Calls) {
     let described = cases::queries::all();
     let tally = compare_all(
+        calls,
         &described,
         |given| &given.description,
         |case, given| steel::compare(case, given.query),
     );
     assert_eq!(tally.steel.total(), described.len() as u64);
+}
+
+macro_rules! of_both_libraries {
+    ($($name:ident)*) => {$(
+        mod $name {
+            use super::*;
+
+            #[test]
+            fn library() {
+                super::$name(LIBRARY);
+            }
+
+            #[test]
+            fn page() {
+                if can_be_tried() {
+                    super::$name(PAGE);
+                }
+            }
+        }
+    )*};
+}
+
+of_both_libraries! {
+    floors_and_inputs_longer_than_any_floor
+    cases_of_every_refusal
+    changes
+    steel_queries
 }

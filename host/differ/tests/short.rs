@@ -1,42 +1,26 @@
 //! The library held against the reference, with a fixed seed. `differ long` compares far more.
 
-use differ::job::Job;
+mod compared;
+
+use compared::{compared, SEED};
+use differ::job::{Job, LIBRARY};
 use differ::lent::Room;
 use differ::tally::Tally;
-use differ::variety;
-use differ::work::{parts, Amount, Part, SHORT};
-
-const SEED: u64 = 1;
-
-fn compared(job: &Job, part: Part, threads: usize) -> Tally {
-    let compared = part.compare(job, 0..part.cases, threads);
-    compared.unwrap_or_else(|difference| panic!("{difference}"))
-}
+use differ::work::{parts, Amount};
 
 #[test]
 fn floors() {
-    let [floors, flipped, ..] = parts(SHORT);
-    let job = Job::of_the_library(SEED);
-    let mut tally = compared(&job, floors, 1);
-    assert!(tally.floors() >= SHORT.floors);
-    tally.merge(compared(&job, flipped, 1));
-    assert_eq!(variety::floors(&tally), [""; 0]);
+    compared::floors(LIBRARY);
 }
 
 #[test]
 fn changes() {
-    let [_, _, changes, _] = parts(SHORT);
-    let tally = compared(&Job::of_the_library(SEED), changes, 1);
-    assert!(tally.changes.total() >= SHORT.changes);
-    assert_eq!(variety::changes(&tally), [""; 0]);
+    compared::changes(LIBRARY);
 }
 
 #[test]
 fn steel() {
-    let [.., steel] = parts(SHORT);
-    let tally = compared(&Job::of_the_library(SEED), steel, 1);
-    assert!(tally.steel.total() >= SHORT.queries);
-    assert_eq!(variety::steel(&tally), [""; 0]);
+    compared::steel(LIBRARY);
 }
 
 const FEW: Amount = Amount {

@@ -1,10 +1,12 @@
 //! The commands: one file and one row each.
 
 pub mod arguments;
+pub mod change;
 pub mod check;
 pub mod clear;
 pub mod help;
 pub mod make;
+pub mod sheet;
 pub mod text;
 
 use std::ffi::OsString;
@@ -22,6 +24,13 @@ pub enum Status {
 impl Status {
     /// Done as asked, by a command that judges nothing.
     pub const DONE: Status = Status::Clear;
+
+    pub fn of(verdict: u32) -> Status {
+        match verdict {
+            0 => Status::Clear,
+            _ => Status::NotClear,
+        }
+    }
 }
 
 /// A status, or what could not be used, in words.
@@ -38,11 +47,13 @@ pub struct Command {
     pub run: fn(&[OsString]) -> Ended,
 }
 
-pub const COMMANDS: [&Command; 5] = [
+pub const COMMANDS: [&Command; 7] = [
     &make::COMMAND,
     &text::COMMAND,
     &check::COMMAND,
     &clear::COMMAND,
+    &change::COMMAND,
+    &sheet::COMMAND,
     &help::COMMAND,
 ];
 

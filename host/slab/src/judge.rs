@@ -1,16 +1,14 @@
 //! What the proved library says of a floor.
 
+mod held;
+mod moments;
 mod places;
 
+pub use held::Held;
+pub use moments::{Moments, Section, SpanMoments};
 pub use places::Place;
 
 use floor::Floor;
-
-/// Sixteen numbers for each of the (ny+1)nx + (nx+1)ny spans of 12 by 12 bays, so that refusal 8 never arises.
-const LARGEST_TABLE: usize = 16 * 2 * 13 * 12;
-
-/// Five numbers for each of the (ny+1)(nx+1) + (nx+1)(ny+1) supports, so that refusal 13 never arises.
-const LARGEST_GOVERNING: usize = 5 * 2 * 13 * 13;
 
 pub struct Accepted {
     pub floor: Floor,
@@ -49,17 +47,12 @@ pub fn refusal(file: &[u8]) -> u32 {
     gandhrumil::clear(file).refusal
 }
 
-/// What it says of a floor that it accepts, or the number of its refusal. The moments, those of the table and the governing ones, are
-/// dropped unread.
+/// What it says of a floor that it accepts, or the number of its refusal. The moments are dropped unread.
 pub fn judge(file: &[u8]) -> Result<Accepted, u32> {
-    let (mut table, mut governing) = ([0; LARGEST_TABLE], [0; LARGEST_GOVERNING]);
-    let answer = gandhrumil::open(file, &mut table, &mut governing);
-    if answer.refusal != 0 {
-        return Err(answer.refusal);
-    }
-    let floor = Floor::of(file).expect("an accepted floor is laid out as 01 lists it");
+    let held = Held::open(file)?;
+    let floor = held.floor();
     Ok(Accepted {
-        verdict: answer.value,
+        verdict: held.verdict(),
         least: least_thicknesses(file, &floor),
         places: places::places(file),
         floor,

@@ -24,8 +24,20 @@ pub fn write(path: Option<&OsStr>, bytes: &[u8]) -> Result<(), String> {
     }
 }
 
-pub fn is_terminal(path: Option<&OsStr>) -> bool {
-    path.is_none_or(|path| path == "-") && io::stdout().is_terminal()
+/// A fault where a floor file would go to a terminal.
+pub fn no_terminal(path: Option<&OsStr>) -> Result<(), String> {
+    if path.is_none_or(|path| path == "-") && io::stdout().is_terminal() {
+        return Err("a floor file is bytes and no sight for a terminal: \
+                    expected -o and a file's name, or a pipe"
+            .to_string());
+    }
+    Ok(())
+}
+
+/// To standard error, where standard output is taken. No trouble if nobody listens.
+pub fn remark(bytes: &[u8]) -> Result<(), String> {
+    let _ = io::stderr().write_all(bytes);
+    Ok(())
 }
 
 /// To standard error, if anybody listens.

@@ -1,5 +1,6 @@
 //! The text of a floor: a line for each thing, as an engineer would note it.
 
+pub mod change;
 pub mod faults;
 mod forms;
 mod line;
@@ -45,5 +46,6 @@ made, and if it will be refused you are told so at once. Comments do not get int
 
 /// The floor that the text says, or its faults in words.
 pub fn floor(input: &Input) -> Result<Floor, String> {
-    read::floor(input.text()?).map_err(|faults| faults::list(&input.name, &faults))
+    let counted = format!("{}, line", input.name);
+    read::floor(input.text()?).map_err(|faults| faults::list(&counted, &faults))
 }

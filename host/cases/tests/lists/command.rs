@@ -2,7 +2,7 @@
 
 use cases::floors::small::one_bay;
 use cases::garage::garage;
-use cases::refusals;
+use cases::{morning, refusals};
 use reference::sheet::sheet;
 use reference::table::numbers;
 use reference::verdict::judge;
@@ -42,6 +42,13 @@ fn the_command_answers_a_query() {
     }
     let wide = "18446744073709551616";
     let refused = run(&["steel", wide, "1", "150", "0", "30", "420"], &[]);
+    assert!(!refused.status.success() && refused.stdout.is_empty());
+}
+
+#[test]
+fn the_command_prints_a_morning() {
+    assert_eq!(printed(&["morning", "7", "2"], &[]), morning::text(7, 2));
+    let refused = run(&["morning", "7", "-1"], &[]);
     assert!(!refused.status.success() && refused.stdout.is_empty());
 }
 

@@ -6,6 +6,7 @@ mod command;
 mod draw;
 mod floor_refusals;
 mod floors;
+mod morning;
 mod places;
 mod queries;
 mod runs;

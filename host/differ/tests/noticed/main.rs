@@ -4,6 +4,8 @@ mod changes;
 mod clear;
 mod equal;
 mod looks;
+#[path = "../noticing/mod.rs"]
+mod noticing;
 mod openings;
 mod order;
 mod places;
@@ -18,9 +20,10 @@ use cases::runs::Run;
 use differ::case::Case;
 use differ::job::{Calls, Change, Job, LIBRARY};
 use differ::tally::Tally;
-use differ::work::{parts, Amount};
+use differ::work::Amount;
 use differ::{floors, runs, variety};
 use gandhrumil::{Answer, Query};
+use noticing::noticed;
 use std::sync::LazyLock;
 
 const FEW: Amount = Amount {
@@ -30,21 +33,9 @@ const FEW: Amount = Amount {
     queries: 2_000,
 };
 
-/// What is said of the first difference.
-fn noticed(part: &str, calls: Calls) -> String {
-    let job = Job {
-        calls,
-        ..Job::of_the_library(1)
-    };
-    let mut parts = parts(FEW).into_iter();
-    let part = parts.find(|one| one.name == part).unwrap();
-    let compared = part.compare(&job, 0..part.cases, 1);
-    compared.expect_err("a difference").to_string()
-}
-
 #[track_caller]
 fn assert_noticed(part: &str, calls: Calls, words: &str) {
-    let noticed = noticed(part, calls);
+    let noticed = noticed(FEW, part, calls);
     assert!(noticed.contains(words), "{noticed}");
 }
 
@@ -160,7 +151,7 @@ fn a_difference_names_its_case() {
         steel: steel_not_least,
         ..LIBRARY
     };
-    let noticed = noticed("steel queries", calls);
+    let noticed = noticed(FEW, "steel queries", calls);
     assert!(
         noticed.starts_with("difference: seed 1, steel queries, case 0: Query {"),
         "{noticed}"

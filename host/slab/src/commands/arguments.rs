@@ -1,16 +1,24 @@
-//! The words after a command's name: one input, and the options that its usage shows.
+//! The words after a command's name: one input, changes where the usage has them, and the options that it shows.
 
 use super::Command;
 use std::ffi::{OsStr, OsString};
-use std::mem;
 
 pub struct Arguments<'a> {
     pub input: &'a OsStr,
-    /// What `-o` names.
-    pub output: Option<&'a OsStr>,
-    /// `--all`
-    pub all: bool,
+    /// What follows the input.
+    pub changes: Vec<&'a OsStr>,
+    /// Each option that is given, with the word after it where it asks for one.
+    given: Vec<(&'static str, Option<&'a OsStr>)>,
 }
+
+/// Every option, and where it asks for a word the fault of having none.
+const OPTIONS: [(&str, Option<&str>); 5] = [
+    ("--all", None),
+    ("--html", None),
+    ("-o", Some("no file is named after -o")),
+    ("--name", Some("no name stands after --name")),
+    ("--date", Some("no date stands after --date")),
+];
 
 fn unusable(command: &Command, words: &str) -> String {
     let Command { name, usage, .. } = command;
@@ -18,28 +26,52 @@ fn unusable(command: &Command, words: &str) -> String {
 }
 
 impl<'a> Arguments<'a> {
-    /// Each at most once.
+    /// Each option at most once.
     pub fn read(command: &Command, words: &'a [OsString]) -> Result<Arguments<'a>, String> {
-        let (mut input, mut output, mut all) = (None, None, false);
-        let shown = |option: &str| command.usage.contains(option);
+        let (mut plain, mut given) = (Vec::new(), Vec::new());
         let mut words = words.iter().map(OsString::as_os_str);
         while let Some(word) = words.next() {
-            let misplaced = if word == "-o" && shown("-o") {
-                let named = words.next();
-                let named = named.ok_or_else(|| unusable(command, "no file is named after -o"))?;
-                output.replace(named).is_some()
-            } else if word == "--all" && shown("--all") {
-                mem::replace(&mut all, true)
+            let shown =
+                |(option, _): &&(&str, _)| word == *option && command.usage.contains(option);
+            let fits = if let Some((option, asks)) = OPTIONS.iter().find(shown) {
+                let next = |fault: &str| words.next().ok_or_else(|| unusable(command, fault));
+                let once = given.iter().all(|(other, _)| other != option);
+                given.push((*option, asks.map(next).transpose()?));
+                once
             } else {
-                is_option(word) || input.replace(word).is_some()
+                plain.push(word);
+                !is_option(word) && (plain.len() == 1 || command.usage.contains("CHANGE"))
             };
-            if misplaced {
+            if !fits {
                 let words = format!("{} has no place here", word.to_string_lossy());
                 return Err(unusable(command, &words));
             }
         }
-        let input = input.ok_or_else(|| unusable(command, "no file is named"))?;
-        Ok(Arguments { input, output, all })
+        if plain.is_empty() {
+            return Err(unusable(command, "no file is named"));
+        }
+        let changes = plain.split_off(1);
+        let input = plain[0];
+        Ok(Arguments {
+            input,
+            changes,
+            given,
+        })
+    }
+
+    pub fn has(&self, option: &str) -> bool {
+        self.given.iter().any(|(given, _)| *given == option)
+    }
+
+    /// The word after the option.
+    pub fn after(&self, option: &str) -> Option<&'a OsStr> {
+        let mut given = self.given.iter();
+        given.find_map(|(other, word)| word.filter(|_| *other == option))
+    }
+
+    /// What `-o` names.
+    pub fn output(&self) -> Option<&'a OsStr> {
+        self.after("-o")
     }
 }
 

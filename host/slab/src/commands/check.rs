@@ -28,16 +28,13 @@ Exit status: 0 clear, 1 not clear, 2 refused, 3 where there is no floor to check
 };
 
 fn run(words: &[OsString]) -> Ended {
-    let Arguments { input, all, .. } = Arguments::read(&COMMAND, words)?;
-    let given = Given::read(input)?;
+    let arguments = Arguments::read(&COMMAND, words)?;
+    let given = Given::read(arguments.input)?;
     let (words, status) = match judge(&given.file) {
         Err(number) => (say::refusal::page(number, &given), Status::Refused),
         Ok(accepted) => {
-            let status = match accepted.verdict {
-                0 => Status::Clear,
-                _ => Status::NotClear,
-            };
-            (say::verdict::page(&accepted, all), status)
+            let page = say::verdict::page(&accepted, arguments.has("--all"));
+            (page, Status::of(accepted.verdict))
         }
     };
     output::print(format!("{}: {words}", given.name).as_bytes())?;

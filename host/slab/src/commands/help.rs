@@ -23,10 +23,15 @@ A floor file is bytes; write a text, and `slab make` turns it into one. For exam
   slab make garage.txt -o garage.floor
   slab check garage.floor
 
-Exit status of `slab check` and `slab clear`: 0 clear, 1 not clear, 2 refused. Any command: 3
-where the command line, a text or a file cannot be used; 0 otherwise, and 2 where `slab text` is
-given a file that is not laid out as a floor. `-` stands for standard input or standard output.
+Exit status of `slab check`, `clear`, `change` and `sheet`: 0 clear, 1 not clear, 2 refused. Any
+command: 3 where the command line, a text or a file cannot be used; 0 otherwise, and 2 where
+`slab text` is given a file that is not laid out as a floor. `-` stands for standard input or
+standard output.
 ";
+
+/// Of a usage with the summary beside it; below a longer one the summary has a line of its own.
+const WIDTH: usize = 24;
+const BESIDE: usize = "  slab ".len() + WIDTH;
 
 pub fn overview() -> String {
     let mut page = BEFORE.to_string();
@@ -37,7 +42,12 @@ pub fn overview() -> String {
         ..
     } in COMMANDS
     {
-        page += &format!("  slab {:<24}{summary}\n", format!("{name} {usage}"));
+        let asked = format!("{name} {usage}");
+        let apart = match asked.len() {
+            0..WIDTH => String::new(),
+            _ => format!("\n{:BESIDE$}", ""),
+        };
+        page += &format!("  slab {asked:<WIDTH$}{apart}{summary}\n");
     }
     page + AFTER
 }

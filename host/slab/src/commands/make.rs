@@ -18,14 +18,10 @@ pub const COMMAND: Command = Command {
 
 fn run(words: &[OsString]) -> Ended {
     let arguments = Arguments::read(&COMMAND, words)?;
-    if output::is_terminal(arguments.output) {
-        return Err("a floor file is bytes and no sight for a terminal: \
-                    expected -o and a file's name, or a pipe"
-            .to_string());
-    }
+    output::no_terminal(arguments.output())?;
     let input = Input::read(arguments.input)?;
     let file = text::floor(&input)?.bytes();
-    output::write(arguments.output, &file)?;
+    output::write(arguments.output(), &file)?;
     // It is made all the same: `slab check` then says why, and a text is mended more easily than bytes.
     let refused = refusal(&file);
     if refused != 0 {

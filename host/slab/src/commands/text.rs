@@ -26,7 +26,7 @@ fn run(words: &[OsString]) -> Ended {
     let arguments = Arguments::read(&COMMAND, words)?;
     let input = Input::read(arguments.input)?;
     if let Some(floor) = Floor::of(input.floor()) {
-        output::write(arguments.output, text::write::text(&floor).as_bytes())?;
+        output::write(arguments.output(), text::write::text(&floor).as_bytes())?;
         return Ok(Status::DONE);
     }
     let why = say::refusal::sentence(refusal(input.floor()));

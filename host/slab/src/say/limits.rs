@@ -1,7 +1,7 @@
-//! The limits of the method: of each its sentence, and how its places are said.
+//! The limits of the method: of each how its places are said.
 
 use super::folds::{self, Fold};
-use super::places;
+use super::{places, sentences};
 use crate::judge::{Accepted, Place};
 
 /// Up to so many places of a limit are said one by one.
@@ -9,61 +9,65 @@ const MOST_APART: usize = 4;
 
 pub struct Limit {
     pub number: u32,
-    pub sentence: &'static str,
     fold: fn(&[Place]) -> Vec<Fold>,
     words: fn(&Accepted, &Fold) -> String,
 }
 
 /// 01, "The verdict": "A sum of what is broken".
-pub const LIMITS: [Limit; 7] = [
+static LIMITS: [Limit; 7] = [
     Limit {
         number: 1,
-        sentence: "there are fewer than three bays along x or along y",
         fold: folds::apart,
         words: places::direction,
     },
     Limit {
         number: 2,
-        sentence: "in some panel the longer span is more than twice the shorter",
         fold: folds::rows,
         words: places::slender_panels,
     },
     Limit {
         number: 4,
-        sentence:
-            "some neighbouring spans in a direction differ by more than a third of the longer",
         fold: folds::runs,
         words: places::neighbours,
     },
     Limit {
         number: 8,
-        sentence:
-            "some column is off its line by more than a tenth of a span that adjoins it in that direction",
         fold: folds::rows,
         words: places::columns,
     },
     Limit {
         number: 16,
-        sentence: "the live load is more than twice the dead load",
         fold: folds::apart,
         words: places::loads,
     },
     Limit {
         number: 32,
-        sentence: "there are beams everywhere, and in some panel (α of its x lines)·(y span)² and \
-                   (α of its y lines)·(x span)² are more than five times apart",
         fold: folds::rows,
         words: places::unequal_panels,
     },
     Limit {
         number: 64,
-        sentence: "the slab is thinner than some panel's least thickness",
         fold: folds::rows,
         words: places::thin_panels,
     },
 ];
 
+/// Those that a verdict is the sum of.
+pub fn broken(verdict: u32) -> impl Iterator<Item = &'static Limit> {
+    let limits = LIMITS.iter();
+    limits.filter(move |limit| verdict & limit.number != 0)
+}
+
 impl Limit {
+    pub fn sentence(&self) -> &'static str {
+        sentences::limit(self.number)
+    }
+
+    /// The number and the sentence, as a line below a verdict.
+    pub fn line(&self) -> String {
+        format!("  {:>2}  {}\n", self.number, self.sentence())
+    }
+
     /// The places where the floor breaks it, in words: more than a few are folded, unless all are asked for.
     pub fn places(&self, accepted: &Accepted, all: bool) -> Vec<String> {
         let mut places = accepted.places.clone();

@@ -4,13 +4,6 @@ use super::folds::Fold;
 use crate::way::Way;
 use floor::Floor;
 
-pub fn spans(floor: &Floor, way: Way) -> &[u32] {
-    match way {
-        Way::X => &floor.x_spans,
-        Way::Y => &floor.y_spans,
-    }
-}
-
 pub fn picked<T: Clone>(from: &[T], numbers: &[usize]) -> Vec<T> {
     numbers.iter().map(|&number| from[number].clone()).collect()
 }

@@ -2,13 +2,13 @@
 
 use super::folds::Fold;
 use super::numbers::{few_or_range, joined, named, range};
-use super::picks::{offsets, picked, picked_from_rows, spans, spans_beside, with_next};
+use super::picks::{offsets, picked, picked_from_rows, spans_beside, with_next};
 use crate::judge::Accepted;
 use floor::Floor;
 
 /// `2 bays along x`
 pub fn direction(accepted: &Accepted, fold: &Fold) -> String {
-    let bays = spans(&accepted.floor, fold.way).len();
+    let bays = fold.way.spans(&accepted.floor).len();
     let plural = if bays == 1 { "" } else { "s" };
     format!("{bays} bay{plural} along {}", fold.way.name())
 }
@@ -24,7 +24,7 @@ pub fn slender_panels(accepted: &Accepted, fold: &Fold) -> String {
 /// A run of n pairs of neighbours is n + 1 spans.
 pub fn neighbours(accepted: &Accepted, fold: &Fold) -> String {
     let numbers = with_next(fold.along());
-    let lengths = picked(spans(&accepted.floor, fold.way), &numbers);
+    let lengths = picked(fold.way.spans(&accepted.floor), &numbers);
     let which = match fold.count() {
         1 => "which",
         _ => "each two neighbours of which",
@@ -38,7 +38,7 @@ pub fn neighbours(accepted: &Accepted, fold: &Fold) -> String {
 
 pub fn columns(accepted: &Accepted, fold: &Fold) -> String {
     let (floor, way) = (&accepted.floor, fold.way.name());
-    let spans = spans(floor, fold.way);
+    let spans = fold.way.spans(floor);
     let beside = spans_beside(fold.along(), spans.len());
     format!(
         "{}on {}, {}: {} mm off along {way}, beside {} of {} mm",

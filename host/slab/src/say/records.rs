@@ -1,22 +1,8 @@
 //! One record of a floor in the words of its text.
 
+use super::sentences;
 use crate::text::sides;
 use floor::{Floor, Record, NO_BEAM};
-
-/// The range of each kind's values: 01, "The floor file".
-const RANGES: [(u16, &str); 8] = [
-    (2, "concrete 20 to 60, steel 280, 420 or 520"),
-    (3, "dead 1000 to 30000, live 0 to 50000"),
-    (
-        4,
-        "columns 200 to 1500 each way, multiples of 10; each side columns, unrestrained or restrained",
-    ),
-    (5, "1000 to 12000, a multiple of 20"),
-    (6, "1000 to 12000, a multiple of 20"),
-    (7, "width 150 to 1000 and depth 91 to 1500, or both 0"),
-    (8, "width 150 to 1000 and depth 91 to 1500, or both 0"),
-    (9, "0 to 12000 each way"),
-];
 
 pub fn words(floor: &Floor, record: &Record) -> String {
     let Record {
@@ -30,8 +16,8 @@ pub fn words(floor: &Floor, record: &Record) -> String {
         2 => format!("concrete {a}, steel {b}"),
         3 => format!("dead {a}, live {b}"),
         4 => format!("columns {a} {b}, sides {}", sides::written(c)),
-        5 => format!("x bay {index}, span {a}"),
-        6 => format!("y bay {index}, span {a}"),
+        5 => format!("x span {index} of {a} mm"),
+        6 => format!("y span {index} of {a} mm"),
         7 => format!("x line {index} beam {a} {b}"),
         8 => format!("y line {index} beam {a} {b}"),
         9 => format!("column {i} {j} offset {a} {b}"),
@@ -41,8 +27,8 @@ pub fn words(floor: &Floor, record: &Record) -> String {
 
 pub fn with_range(floor: &Floor, record: &Record) -> String {
     let words = words(floor, record);
-    match RANGES.iter().find(|(kind, _)| *kind == record.kind) {
-        Some((_, range)) => format!("{words}: expected {range}"),
+    match sentences::range(record.kind) {
+        Some(range) => format!("{words}: expected {range}"),
         None => words,
     }
 }

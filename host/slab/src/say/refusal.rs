@@ -1,45 +1,13 @@
 //! A refusal in words.
 
-use super::culprits;
+use super::{culprits, sentences};
 use crate::given::Given;
 use floor::{Record, RECORD_BYTES};
 
-/// 01, "Refusal numbers, in the order tried".
-const REASONS: [(u32, &str); 7] = [
-    (
-        1,
-        "the file's length is no multiple of 16 bytes, or it has fewer than 14 records of 16",
-    ),
-    (
-        2,
-        "the first record is not the sizes, kind 1 index 0, or the bays are not 1 to 12 each way, \
-         or the slab is not 90 to 500 mm",
-    ),
-    (3, "the number of records is not what the bays ask for"),
-    (
-        4,
-        "some record has another kind or index than its place asks for, or something in a field \
-         that has to be 0",
-    ),
-    (
-        5,
-        "some value is out of range, or a beam has one size alone 0",
-    ),
-    (
-        6,
-        "twice the columns' size along x exceeds an x span, or twice their size along y a y span",
-    ),
-    (
-        7,
-        "the beams are neither on every line, nor on the four outer lines only, nor on none; or a \
-         beam is not deeper than the slab is thick",
-    ),
-];
-
 /// `refused 3: ...`
 pub fn sentence(number: u32) -> String {
-    match REASONS.iter().find(|(given, _)| *given == number) {
-        Some((_, reason)) => format!("refused {number}: {reason}"),
+    match sentences::refusal(number) {
+        Some(reason) => format!("refused {number}: {reason}"),
         None => format!("refused {number}"),
     }
 }

@@ -1,6 +1,6 @@
 //! The verdict in words.
 
-use super::limits::LIMITS;
+use super::limits::broken;
 use super::panels;
 use crate::judge::Accepted;
 
@@ -26,8 +26,8 @@ fn limits(accepted: &Accepted, all: bool) -> String {
     }
     let mut page = format!("not clear, verdict {verdict}:\n");
     let mut lines = 0;
-    for limit in LIMITS.iter().filter(|limit| verdict & limit.number != 0) {
-        page += &format!("  {:>2}  {}\n", limit.number, limit.sentence);
+    for limit in broken(verdict) {
+        page += &limit.line();
         for words in limit.places(accepted, all) {
             page += &format!("        {words}\n");
             lines += 1;

@@ -38,7 +38,7 @@ pub fn said(line: &[u8]) -> Result<Said, String> {
     )))
 }
 
-fn with_example<T>(read: Result<T, String>, example: &str) -> Result<T, String> {
+pub fn with_example<T>(read: Result<T, String>, example: &str) -> Result<T, String> {
     read.map_err(|fault| format!("{fault}; for example `{example}`"))
 }
 
@@ -53,15 +53,25 @@ fn numbers(form: &Numbers, words: &mut Words) -> Result<Vec<u32>, String> {
 }
 
 fn beam(lines: Result<Lines, String>, words: &mut Words) -> Result<Said, String> {
-    let whats = ["the beam's width in mm", "the beam's depth in mm"];
-    Ok(Said::Beam(lines?, pair("beam", whats, words)?))
+    Ok(Said::Beam(lines?, beam_sizes(words)?))
 }
 
 fn offset(words: &mut Words) -> Result<Said, String> {
     let i = words.number("the column's y line")? as usize;
     let j = words.number("the column's x line")? as usize;
+    Ok(Said::Offset([i, j], offset_sizes(words)?))
+}
+
+/// The rest of a line from the word `beam` on.
+pub fn beam_sizes(words: &mut Words) -> Result<(u32, u32), String> {
+    let whats = ["the beam's width in mm", "the beam's depth in mm"];
+    pair("beam", whats, words)
+}
+
+/// The rest of a line from the word `offset` on.
+pub fn offset_sizes(words: &mut Words) -> Result<(u32, u32), String> {
     let whats = ["the offset along x in mm", "the offset along y in mm"];
-    Ok(Said::Offset([i, j], pair("offset", whats, words)?))
+    pair("offset", whats, words)
 }
 
 /// The key, two numbers, and the end of the line.

@@ -1,5 +1,8 @@
 //! One line of a text, word by word.
 
+use std::fmt::Display;
+use std::str::FromStr;
+
 pub struct Words {
     words: Vec<String>,
     at: usize,
@@ -48,10 +51,20 @@ impl Words {
     }
 
     pub fn number(&mut self, what: &str) -> Result<u32, String> {
+        self.number_up_to(u32::MAX, what)
+    }
+
+    /// One that a record's index has room for.
+    pub fn index(&mut self, what: &str) -> Result<u16, String> {
+        self.number_up_to(u16::MAX, what)
+    }
+
+    /// `most` is the largest of its type.
+    fn number_up_to<N: FromStr + Display>(&mut self, most: N, what: &str) -> Result<N, String> {
         let number = match self.next() {
             Some(word) if is_number(word) => word
                 .parse()
-                .map_err(|_| self.instead_of(&format!("{what}, at most {}", u32::MAX))),
+                .map_err(|_| self.instead_of(&format!("{what}, at most {most}"))),
             Some(_) => Err(self.instead_of(&format!("{what}, digits alone"))),
             None => Err(self.instead_of(what)),
         }?;

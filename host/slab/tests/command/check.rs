@@ -105,7 +105,7 @@ pub const BROKEN: [(u32, &str, Spoil); 7] = [
         "the live load is more than twice the dead load",
         |floor| floor.live = 10_001,
     ),
-    (32, "are more than five times apart", |floor| {
+    (32, "is more than five times the other", |floor| {
         floor.x_lines = vec![(1_000, 1_500); 4];
         floor.y_lines = vec![(300, 400); 4];
     }),

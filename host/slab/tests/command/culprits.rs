@@ -51,8 +51,8 @@ fn values_are_named_with_their_range() {
             "dead 999, live 2000: expected dead 1000 to 30000, live 0 to 50000",
             "columns 400 300, sides 3: expected columns 200 to 1500 each way, multiples of 10; \
              each side columns, unrestrained or restrained",
-            "x bay 2, span 4010: expected 1000 to 12000, a multiple of 20",
-            "y bay 0, span 12020: expected 1000 to 12000, a multiple of 20",
+            "x span 2 of 4010 mm: expected 1000 to 12000, a multiple of 20",
+            "y span 0 of 12020 mm: expected 1000 to 12000, a multiple of 20",
             "x line 1 beam 0 615: expected width 150 to 1000 and depth 91 to 1500, or both 0",
             "y line 3 beam 380 1501: expected width 150 to 1000 and depth 91 to 1500, or both 0",
             "column 2 1 offset 0 12001: expected 0 to 12000 each way",
@@ -69,9 +69,9 @@ fn spans_too_short_for_the_columns() {
     assert_eq!(
         looked_at(&floor.bytes()),
         [
-            "x bay 0, span 2980: columns 1500 1000",
-            "x bay 2, span 2000: columns 1500 1000",
-            "y bay 1, span 1980: columns 1500 1000",
+            "x span 0 of 2980 mm: columns 1500 1000",
+            "x span 2 of 2000 mm: columns 1500 1000",
+            "y span 1 of 1980 mm: columns 1500 1000",
         ]
     );
 }

@@ -117,6 +117,31 @@ fn the_thin_garage_as_the_readme_has_it() {
     in_the_readme(&lines[2..5].join("\n"));
 }
 
+const MOVED: [&str; 2] = ["x span 2 9900", "x span 3 4800"];
+
+#[test]
+fn changes_as_the_readme_has_them() {
+    let moved = slab_on(&["change", "-", MOVED[0], MOVED[1]], &floor());
+    assert_eq!(moved.status, 1);
+    in_the_readme(moved.words());
+    let refused = slab_on(&["change", "-", "x span 2 6610"], &floor());
+    assert_eq!(refused.status, 2);
+    in_the_readme(refused.words());
+}
+
+#[test]
+fn sheets_as_the_readme_has_them() {
+    let clear = slab_on(&["sheet", "-"], &floor());
+    let frame = clear.words().split("\n\n").nth(1).expect("a frame");
+    let first: Vec<&str> = frame.lines().take(4).collect();
+    in_the_readme(&first.join("\n"));
+    let moved = slab_on(&["change", "-", MOVED[0], MOVED[1], "-o", "-"], &floor());
+    let words = ["sheet", "--name", "moved", "--date", "2026-11-16", "-"];
+    let broken = slab_on(&words, &moved.stdout);
+    assert_eq!(broken.status, 1);
+    in_the_readme(broken.words());
+}
+
 /// The same places of a floor file and of its text.
 #[test]
 fn places_of_either_form() {

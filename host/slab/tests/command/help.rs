@@ -1,6 +1,6 @@
 //! Help, for the command and each of its commands.
 
-use crate::run::slab;
+use crate::run::{root, slab};
 use slab::commands::COMMANDS;
 
 #[test]
@@ -65,4 +65,21 @@ fn the_guide_is_true() {
         (200, 16 + 2 * 64, 5)
     );
     assert_eq!((floor.x_lines[0], floor.offsets[2]), ((400, 700), (250, 0)));
+}
+
+/// The changes that `slab help change` shows are taken by the garage.
+#[test]
+fn the_changes_shown_are_true() {
+    let asked = slab(&["help", "change"]);
+    let lines = asked.words().lines().filter(|line| line.starts_with("  '"));
+    let quoted = lines.flat_map(|line| line.split('\'').skip(1).step_by(2));
+    let changes: Vec<&str> = quoted.collect();
+    assert_eq!(changes.len(), 6, "{changes:?}");
+    let floor = root("example/garage.floor");
+    let ran = slab(&[&["change", floor.to_str().unwrap()], &changes[..]].concat());
+    assert_eq!((ran.status, &ran.stderr[..]), (0, ""));
+    let right = changes
+        .iter()
+        .map(|change| format!("{change}: taken, clear\n"));
+    assert_eq!(ran.words(), right.collect::<String>());
 }

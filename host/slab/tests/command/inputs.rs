@@ -26,7 +26,7 @@ fn an_empty_file() {
 #[test]
 fn a_directory_and_nothing_at_all() {
     for path in [root("example"), root("example/no.floor")] {
-        for name in ["check", "clear", "text", "make"] {
+        for name in ["check", "clear", "text", "make", "sheet"] {
             let ran = slab(&[name, path.to_str().unwrap()]);
             assert_eq!((ran.status, ran.stdout.len()), (3, 0));
             assert!(
@@ -85,7 +85,13 @@ fn a_huge_file() {
             "{}",
             clear.words()
         );
-        assert_eq!(slab(&["text", path]).status, 2);
+        for words in [
+            &["text", path][..],
+            &["sheet", path],
+            &["change", path, "dead 7200"],
+        ] {
+            assert_eq!(slab(words).status, 2, "{words:?}");
+        }
         let make = slab(&["make", path]);
         assert_eq!(make.status, 3);
         assert!(make
@@ -115,20 +121,23 @@ fn a_floor_file_in_place_of_a_text() {
 #[test]
 fn broken_pipes() {
     let (floor, text) = (root("example/garage.floor"), root("example/garage.txt"));
-    for (name, path) in [
-        ("check", &floor),
-        ("clear", &floor),
-        ("text", &floor),
-        ("make", &text),
-        ("help", &"check".into()),
+    let (floor, text) = (floor.to_str().unwrap(), text.to_str().unwrap());
+    for words in [
+        &["check", floor][..],
+        &["clear", floor],
+        &["sheet", floor],
+        &["change", floor, "dead 7200"],
+        &["text", floor],
+        &["make", text],
+        &["help", "check"],
     ] {
-        let mut child = command(&[name, path.to_str().unwrap()])
+        let mut child = command(words)
             .stdin(Stdio::null())
             .stdout(gone())
             .stderr(gone())
             .spawn()
             .unwrap();
-        assert_eq!(child.wait().unwrap().code(), Some(0), "{name}");
+        assert_eq!(child.wait().unwrap().code(), Some(0), "{words:?}");
     }
     let mut child = command(&["chek"]).stderr(gone()).spawn().unwrap();
     assert_eq!(child.wait().unwrap().code(), Some(3));

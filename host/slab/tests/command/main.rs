@@ -1,5 +1,7 @@
 //! The command, by what it prints and how it ends, and the text form beneath it.
 
+mod change;
+mod change_runs;
 mod check;
 mod clear;
 mod culprits;
@@ -14,5 +16,9 @@ mod plain;
 mod reader;
 mod round_trip;
 mod run;
+mod sheet;
+mod sheet_form;
+mod sheet_parts;
 mod statuses;
 mod unfold;
+mod units;

@@ -9,7 +9,7 @@ fn garage() -> String {
 }
 
 #[test]
-fn check_and_clear_by_the_verdict() {
+fn by_the_verdict() {
     for (old, new, status) in [
         ("live 5000", "live 14400", 0),
         ("live 5000", "live 14401", 1),
@@ -21,6 +21,9 @@ fn check_and_clear_by_the_verdict() {
             &["check", "--all", "-"],
             &["check", "-", "--all"],
             &["clear", "-"],
+            &["sheet", "-"],
+            &["sheet", "--html", "-"],
+            &["change", "-", "column 0 0 offset 0 0"],
         ] {
             let ran = slab_on(words, garage().replace(old, new).as_bytes());
             assert_eq!(ran.status, status, "{words:?}, {new}: {}", ran.stderr);
@@ -106,6 +109,22 @@ fn words_that_are_no_command() {
         &["clear", "a", "b"],
         &["clear", "a", "-o", "b"],
         &["clear", "--all", "a"],
+        &["change"],
+        &["change", "a"],
+        &["change", "a", "-o", "b"],
+        &["change", "a", "dead 7200", "--all"],
+        &["change", "a", "dead 7200", "-o"],
+        &["change", "a", "dead 7200", "-o", "b", "-o", "c"],
+        &["change", "a", "b"],
+        &["sheet"],
+        &["sheet", "a", "b"],
+        &["sheet", "--html"],
+        &["sheet", "a", "--html", "--html"],
+        &["sheet", "a", "--all"],
+        &["sheet", "a", "--name"],
+        &["sheet", "a", "--date"],
+        &["sheet", "a", "--name", "b", "--name", "c"],
+        &["check", "a", "--html"],
         &["make"],
         &["make", "a", "-o"],
         &["make", "a", "-o", "b", "-o", "c"],

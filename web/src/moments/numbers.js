@@ -1,0 +1,88 @@
+// A frame's numbers in two tables: the three sections of each span with its static moment, and the governing negative at each support.
+
+import { element } from '../dom.js';
+import { kNm, kNmOfNm } from '../units.js';
+import { SUPPORTS_CAPTION, headRow, spanRows, supportRow } from './rows.js';
+
+/** @typedef {import('../dom.js').Attributes} Attributes */
+/** @typedef {import('./frame.js').Frame} Frame */
+/**
+ * How moments, and static moments, are written.
+ * @typedef {{units: string, moment: (nCm: number) => string, mo: (nM: number) => string}} Writing
+ */
+/** @typedef {(frame: Frame, writing: Writing) => string} Reading */
+
+/** @type {Writing} */
+const ROUNDED_UP = {
+    units: 'Moments, and the static moment Mo of each span, in kN·m, rounded up to the next 0.01.',
+    moment: kNm,
+    mo: kNmOfNm,
+};
+
+/** @type {Writing} */
+const EXACT = {
+    units: 'Moments in N·cm, and the static moment Mo of each span in N·m, exact. The diagram is in kN·m.',
+    moment: String,
+    mo: String,
+};
+
+/** The tables are made anew only for another number of spans or another direction; otherwise just the cells that differ are written. */
+export class FrameTables {
+    constructor() {
+        this.units = element('p', { class: 'units' });
+        this.spans = element('table', { id: 'frame-table' });
+        this.supports = element('table', { id: 'support-table' });
+        this.shape = '';
+        /** @type {{text: Text, reading: Reading}[]} */
+        this.cells = [];
+    }
+
+    /** @param {Frame} frame @param {boolean} exact */
+    show(frame, exact) {
+        const shape = `${frame.way} ${frame.lengths.length}`;
+        if (shape !== this.shape) {
+            this.shape = shape;
+            this.make(frame);
+        }
+        const writing = exact ? EXACT : ROUNDED_UP;
+        this.units.textContent = writing.units;
+        for (const { text, reading } of this.cells) {
+            const words = reading(frame, writing);
+            if (text.data !== words) {
+                text.data = words;
+            }
+        }
+    }
+
+    /** @param {Frame} frame */
+    make(frame) {
+        this.cells = [];
+        const rows = frame.supports.map((_, support) => supportRow(frame.way, support, (part) => this.cell(
+            { class: 'moment', 'data-support': support, 'data-part': part },
+            ({ supports }, { moment }) => moment(supports[support][part]),
+        )));
+        this.spans.replaceChildren(element('caption', {}, 'three sections of each span'), headRow('span', 'length, mm', 'Mo', 'section', 'steel'),
+            ...frame.lengths.map((_, span) => this.spanBody(frame, span)));
+        this.supports.replaceChildren(element('caption', {}, SUPPORTS_CAPTION), headRow('support', 'at', 'steel'), element('tbody', {}, ...rows));
+    }
+
+    /** @param {Frame} frame @param {number} span */
+    spanBody(frame, span) {
+        const leading = [
+            element('th', { rowspan: 3 }, String(span)),
+            this.cell({ rowspan: 3 }, ({ lengths }) => String(lengths[span])),
+            this.cell({ class: 'mo', rowspan: 3, 'data-span': span }, ({ spans }, { mo }) => mo(spans[span].mo)),
+        ];
+        return spanRows(frame.way, leading, (section, part) => this.cell(
+            { class: 'moment', 'data-span': span, 'data-section': section, 'data-part': part },
+            ({ spans }, { moment }) => moment(spans[span][section][part]),
+        ));
+    }
+
+    /** @param {Attributes} attributes @param {Reading} reading */
+    cell(attributes, reading) {
+        const text = document.createTextNode('');
+        this.cells.push({ text, reading });
+        return element('td', attributes, text);
+    }
+}
