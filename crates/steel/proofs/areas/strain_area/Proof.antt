@@ -6,8 +6,8 @@ use borrow.Author.Needs.{needs}
 use Rattle.numbers.proofs.Bounded.{_⊗_, #, fits}
 use Rattle.steel.specs.Steel.{strainArea}
 use Rattle.steel.proofs.Ranges.{k-most, grade-range, depth-range}
-use Rattle.steel.proofs.limits.strain_area.Statement.{statement}
-use Rattle.steel.proofs.limits.strain_area.Tie as tie
+use Rattle.steel.proofs.areas.strain_area.Statement.{statement}
+use Rattle.steel.proofs.areas.strain_area.Tie as tie
 
 factor : (c : tie.After-k-of) → c .k-of .result ≤ 1190
 factor c = rw (c .k-of .ensures) (k-most _)

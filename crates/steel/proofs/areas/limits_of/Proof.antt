@@ -5,8 +5,8 @@ use Prim.Native.Nat.{_≤_}
 use Rattle.numbers.proofs.Bounded.{_⊗_, #, fits}
 use Rattle.steel.specs.Steel.{limitsOf}
 use Rattle.steel.proofs.Ranges.{depth-range}
-use Rattle.steel.proofs.limits.limits_of.Statement.{statement}
-use Rattle.steel.proofs.limits.limits_of.Tie as tie
+use Rattle.steel.proofs.areas.limits_of.Statement.{statement}
+use Rattle.steel.proofs.areas.limits_of.Tie as tie
 
 depth : (c : tie.After-depth-of) → c .depth-of .result ≤ 475
 depth c = rw (c .depth-of .ensures) (depth-range (c .before .pre) .1)

@@ -3,8 +3,8 @@
 use borrow.Author.Needs.{needs}
 use Rattle.numbers.proofs.Cases.{cases}
 use Rattle.steel.specs.Area.{K}
-use Rattle.steel.proofs.limits.k_of.Statement.{statement}
-use Rattle.steel.proofs.limits.k_of.Tie as tie
+use Rattle.steel.proofs.areas.k_of.Statement.{statement}
+use Rattle.steel.proofs.areas.k_of.Tie as tie
 
 pub k-of-spec : {M : Type 1} → statement M
 unfolding K

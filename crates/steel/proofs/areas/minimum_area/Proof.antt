@@ -6,8 +6,8 @@ use native.Mathlib.Omega.{arith}
 use Rattle.numbers.proofs.Bounded.{_⊗_, #, fits}
 use Rattle.steel.specs.Steel.{minimumArea}
 use Rattle.steel.proofs.Ranges.{grade-range}
-use Rattle.steel.proofs.limits.minimum_area.Statement.{statement}
-use Rattle.steel.proofs.limits.minimum_area.Tie as tie
+use Rattle.steel.proofs.areas.minimum_area.Statement.{statement}
+use Rattle.steel.proofs.areas.minimum_area.Tie as tie
 
 pub minimum-area-spec : {M : Type 1} → statement M
 unfolding minimumArea
