@@ -5,7 +5,7 @@ use crate::frame::{x_frames, y_frames, Frame};
 use crate::layout::{x_lines, y_lines, Line};
 use crate::refusals::{refusal, SUCCESS};
 use crate::span::Span;
-use crate::steel::steel;
+use crate::steel::{minimum_is_met, moment_is_carried, strain_is_kept, Query};
 use crate::stiffness::frame_width;
 use crate::strips::column_strip_width;
 use crate::table::{record_count, x_record, y_record};
@@ -91,13 +91,10 @@ pub const BARS: [Bar; 3] = [bar(10, 79), bar(12, 113), bar(16, 201)];
 /// "Spacing is the largest multiple of 10 mm, at least 80 and at most 2t, for which bar area times width is at least
 /// area times spacing": every multiple is tried.
 pub fn spacing(bar: Bar, width: u128, area: u128, t: u128) -> Option<u128> {
-    let mut largest = None;
-    for spacing in 80..=2 * t {
-        if spacing.is_multiple_of(10) && bar.area * width >= area * spacing {
-            largest = Some(spacing);
-        }
-    }
-    largest
+    let multiples = (80..=2 * t).step_by(10);
+    multiples
+        .filter(|spacing| bar.area * width >= area * spacing)
+        .max()
 }
 
 /// "The smallest bar that allows a spacing is taken." The bars are tried in order, and the answer is the bar's diameter
@@ -109,6 +106,33 @@ pub fn bar_and_spacing(width: u128, area: u128, t: u128) -> Option<(u128, u128)>
         }
     }
     None
+}
+
+/// "The area is the steel answer for that moment and width at d = 0": `steel::answer`, without trying every area.
+///
+/// The first area to stop at is the least that has enough steel or strains too little. From there on each stops too.
+/// An area past the strain limit has only such above it, and so has one that meets the minimum. Where the strain is
+/// kept, 10·As·fy is at most 51·1190/22400 = 2.7 times fc·b·d, below half of 17·fc·b·d: up to there
+/// As·(17·fc·b·d − 10·As·fy) grows with As, and a larger area carries more.
+pub fn least_area(query: Query) -> Option<u128> {
+    let stops = |area| {
+        let enough = minimum_is_met(query, area) && moment_is_carried(query, area);
+        enough || !strain_is_kept(query, area)
+    };
+    let mut stopping = 1;
+    while !stops(stopping) {
+        stopping *= 2;
+    }
+    // Every area below `going` goes on, and `stopping` stops.
+    let mut going = 0;
+    while going < stopping {
+        let between = (going + stopping) / 2;
+        match stops(between) {
+            true => stopping = between,
+            false => going = between + 1,
+        }
+    }
+    strain_is_kept(query, stopping).then_some(stopping)
 }
 
 /// "17, a strip width of 0 or less, no steel area that fits, or no bar that allows a spacing"
@@ -186,12 +210,16 @@ fn with_bars(strip: Strip, t: u128, fc: u128, fy: u128) -> Result<Entry, Lack> {
         return Err(Lack::Width);
     }
     let width = strip.width as u128;
-    // "The area is the steel answer for that moment and width at d = 0."
-    let area = match steel(strip.moment, width, t, 0, fc, fy) {
-        (SUCCESS, area) => area,
-        (12, _) => return Err(Lack::Area),
-        (refused, _) => unreachable!("{refused}: a strip's values are in range"),
-    };
+    // In range: on a clear floor M is at most 1,879,200,000, and no frame is wider than 12,000.
+    let area = least_area(Query {
+        m: strip.moment,
+        b: width,
+        t,
+        d: 0,
+        fc,
+        fy,
+    });
+    let area = area.ok_or(Lack::Area)?;
     let (diameter, spacing) = bar_and_spacing(width, area, t).ok_or(Lack::Bar)?;
     Ok(Entry {
         record: strip.record,
