@@ -23,6 +23,8 @@ fn by_the_verdict() {
             &["clear", "-"],
             &["sheet", "-"],
             &["sheet", "--html", "-"],
+            &["schedule", "-"],
+            &["schedule", "-", "--out", "-"],
             &["change", "-", "column 0 0 offset 0 0"],
         ] {
             let ran = slab_on(words, garage().replace(old, new).as_bytes());
@@ -125,6 +127,14 @@ fn words_that_are_no_command() {
         &["sheet", "a", "--date"],
         &["sheet", "a", "--name", "b", "--name", "c"],
         &["check", "a", "--html"],
+        &["schedule"],
+        &["schedule", "a", "b"],
+        &["schedule", "a", "-o", "b"],
+        &["schedule", "a", "--out"],
+        &["schedule", "--out", "b"],
+        &["schedule", "a", "--out", "b", "--out", "c"],
+        &["schedule", "a", "--html"],
+        &["sheet", "a", "--out", "b"],
         &["make"],
         &["make", "a", "-o"],
         &["make", "a", "-o", "b", "-o", "c"],
