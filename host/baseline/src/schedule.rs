@@ -52,6 +52,7 @@ struct Strip {
 }
 
 impl Strip {
+    #[inline]
     fn of(floor: &Floor, width: u32) -> Strip {
         let [b, t, fc, fy] = [width, floor.t, floor.fc, floor.fy].map(u64::from);
         Strip {
@@ -81,6 +82,7 @@ impl Strip {
 
 /// Column and middle strip. "Column strip width is wc, less the beam's width on an inside line, less half of it,
 /// rounded up, on an outer line; middle strip width is W less wc."
+#[inline]
 fn strips(floor: &Floor, across: Across, l1: u32, beam: u32) -> Option<[Strip; 2]> {
     let wc = across.four_strips(l1) / 4;
     let taken = match across.is_outer() {
@@ -90,7 +92,7 @@ fn strips(floor: &Floor, across: Across, l1: u32, beam: u32) -> Option<[Strip; 2
     let column = wc.checked_sub(taken).filter(|&width| width > 0)?;
     // At least a quarter of the spans beside the line.
     let middle = across.twice_width() / 2 - wc;
-    Some([column, middle].map(|width| Strip::of(floor, width)))
+    Some([Strip::of(floor, column), Strip::of(floor, middle)])
 }
 
 /// "The moment is the slab part for the column strip and the middle part for the other": of total, column, middle, beam
