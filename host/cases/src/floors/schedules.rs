@@ -9,6 +9,7 @@ pub fn floors() -> Vec<Described> {
     let mut floors = Vec::new();
     let groups = [
         bars(),
+        equal(),
         spacings(),
         widths(),
         lacking(),
@@ -74,6 +75,37 @@ fn bars() -> Vec<Worded> {
     ]
     .map(|(words, floor)| (words.to_string(), floor))
     .into()
+}
+
+/// Diameter, spacing and dead load, then a live load at which bar area times width is area times spacing and one for
+/// which it takes a mm² more.
+const EQUAL: [(u32, u32, u32, [u32; 2]); 6] = [
+    (10, 80, 4_000, [7_944, 7_947]),
+    (10, 100, 4_000, [5_824, 5_827]),
+    (12, 80, 6_000, [10_890, 10_892]),
+    (12, 100, 5_000, [8_702, 8_705]),
+    (16, 80, 10_000, [18_650, 18_653]),
+    (16, 100, 8_000, [15_367, 15_370]),
+];
+
+/// In the column strips inside, of 3,200 mm, which have most at an inner end, every side being fully restrained.
+fn equal() -> Vec<Worded> {
+    let mut floors = Vec::new();
+    for (diameter, spacing, dead, lives) in EQUAL {
+        for (live, words) in lives.into_iter().zip(["just", "just not"]) {
+            let floor = Floor {
+                t: 240,
+                dead,
+                live,
+                sides: 170,
+                x_spans: vec![6_400; 3],
+                y_spans: vec![6_400; 4],
+                ..Floor::clear(3, 4)
+            };
+            floors.push((format!("{words} {diameter} mm at {spacing}"), floor));
+        }
+    }
+    floors
 }
 
 /// "at most 2t", also where that is no multiple of 10.

@@ -2,6 +2,7 @@
 
 use crate::floors::all_floors;
 use cases::floors::{schedules, Described};
+use reference::floor_file::sizes;
 use reference::schedule::{each, entries, schedule, Entry, Lack, ALWAYS_SUFFICE};
 use reference::verdict::judge;
 use std::collections::BTreeMap;
@@ -86,6 +87,45 @@ fn bars_as_said() {
         let taken = bars(words).into_iter().map(|(diameter, ..)| diameter);
         assert_eq!(taken.collect::<Vec<_>>(), expected, "{words}");
     }
+}
+
+/// "for which bar area times width is at least area times spacing": 79, 113 and 201 over 3,200 mm make so much at 80 and
+/// at 100. A mm² more takes the next spacing or bar, 113·3200/3161 being 114.4 and 201·3200/4521 142.3; no bar is left
+/// for 8,041.
+#[test]
+fn equality_and_one_past_it() {
+    for (diameter, spacing, area, next) in [
+        (10, 80, 3_160, Some((12, 110))),
+        (10, 100, 2_528, Some((10, 90))),
+        (12, 80, 4_520, Some((16, 140))),
+        (12, 100, 3_616, Some((12, 90))),
+        (16, 80, 8_040, None),
+        (16, 100, 6_432, Some((16, 90))),
+    ] {
+        for across in ["", ", across"] {
+            let at = format!("just {diameter} mm at {spacing}{across}");
+            let at = inner_end(&at).expect("bars");
+            assert_eq!((at.width, at.area), (3_200, area));
+            assert_eq!((at.diameter, at.spacing), (diameter, spacing));
+            let past = format!("just not {diameter} mm at {spacing}{across}");
+            let past = inner_end(&past);
+            match next {
+                Some(next) => {
+                    let past = past.expect("bars");
+                    assert_eq!((past.width, past.area), (3_200, area + 1));
+                    assert_eq!((past.diameter, past.spacing), next);
+                }
+                None => assert_eq!(past, Err(Lack::Bar)),
+            }
+        }
+    }
+}
+
+/// The column strip at the low end of the second span on x line 1.
+fn inner_end(words: &str) -> Result<Entry, Lack> {
+    let bytes = &floor(words).bytes;
+    let record = 1 + sizes(bytes).nx as usize;
+    each(bytes)[6 * record]
 }
 
 /// The records of `Place` in `schedules`, and with x and y changed round: of 3 by 4 bays 15 records are of x frames
