@@ -63,11 +63,12 @@ fn hold_schedule(description: &str, floor: &[u8], length: usize) -> (u128, u128)
 /// Enough, a byte too few, more than enough, none. Answers the refusal where there are enough.
 fn hold_schedule_in_every_buffer(description: &str, floor: &[u8]) -> u128 {
     let (refused, _) = hold_schedule(description, floor, schedule::ALWAYS_SUFFICE);
-    if let 0 | 17 = refused {
-        let asked = schedule::length(floor);
-        for length in [asked, asked - 1, asked + 1, asked + 40, 0] {
-            hold_schedule(description, floor, length);
-        }
+    let asked = match refused {
+        1..=7 => 0,
+        _ => schedule::length(floor),
+    };
+    for length in [asked, asked.saturating_sub(1), asked + 1, asked + 40, 0] {
+        hold_schedule(description, floor, length);
     }
     refused
 }
