@@ -4,6 +4,8 @@ use crate::floors::all_floors;
 use cases::floors::{schedules, Described};
 use reference::floor_file::sizes;
 use reference::schedule::{each, entries, schedule, Entry, Lack, ALWAYS_SUFFICE};
+use reference::steel::steel;
+use reference::table::{numbers, place};
 use reference::verdict::judge;
 use std::collections::BTreeMap;
 
@@ -107,16 +109,11 @@ fn equality_and_one_past_it() {
             let at = inner_end(&at).expect("bars");
             assert_eq!((at.width, at.area), (3_200, area));
             assert_eq!((at.diameter, at.spacing), (diameter, spacing));
-            let past = format!("just not {diameter} mm at {spacing}{across}");
-            let past = inner_end(&past);
-            match next {
-                Some(next) => {
-                    let past = past.expect("bars");
-                    assert_eq!((past.width, past.area), (3_200, area + 1));
-                    assert_eq!((past.diameter, past.spacing), next);
-                }
-                None => assert_eq!(past, Err(Lack::Bar)),
-            }
+            let words = format!("just not {diameter} mm at {spacing}{across}");
+            let past = inner_end(&words).map(|past| (past.diameter, past.spacing));
+            assert_eq!(past, next.ok_or(Lack::Bar));
+            let needed = steel(inner_slab_moment(&words), 3_200, 240, 0, 30, 420);
+            assert_eq!(needed, (0, area + 1));
         }
     }
 }
@@ -126,6 +123,13 @@ fn inner_end(words: &str) -> Result<Entry, Lack> {
     let bytes = &floor(words).bytes;
     let record = 1 + sizes(bytes).nx as usize;
     each(bytes)[6 * record]
+}
+
+/// Of the same section in the table: total, column, middle, beam and slab after Mo.
+fn inner_slab_moment(words: &str) -> u128 {
+    let bytes = &floor(words).bytes;
+    let record = 1 + sizes(bytes).nx;
+    numbers(bytes)[place(record)][5].into()
 }
 
 /// The records of `Place` in `schedules`, and with x and y changed round: of 3 by 4 bays 15 records are of x frames
