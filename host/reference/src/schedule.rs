@@ -136,7 +136,7 @@ pub fn least_area(query: Query) -> Option<u128> {
 }
 
 /// "17, a strip width of 0 or less, no steel area that fits, or no bar that allows a spacing"
-#[derive(Clone, Copy, Debug, PartialEq, Eq)]
+#[derive(Clone, Copy, Debug, PartialEq, Eq, PartialOrd, Ord)]
 pub enum Lack {
     Width,
     Area,

@@ -9,6 +9,7 @@ mod noticing;
 mod openings;
 mod order;
 mod places;
+mod schedules;
 mod slices;
 mod stiffness;
 mod supports;
@@ -170,9 +171,18 @@ fn what_never_came_up() {
         "a floor asked whether it is clear: Refused(7)",
         "a floor asked for its places: Several",
         "a floor asked for its places: Refused(25)",
-        "a slice for places: a number short",
+        "a slice for places: one short",
         "a floor with several places of limit 8",
         "a floor with one place of limit 64",
+        "a floor asked for its schedule: Written",
+        "a floor asked for its schedule: LaterUnbarred",
+        "a floor asked for its schedule: Refused(15)",
+        "a floor asked for its schedule: Refused(16)",
+        "a buffer for a schedule: one short",
+        "bars: 16 mm",
+        "bars: just enough",
+        "a strip without its Area",
+        "a schedule at each of 16 addresses",
         "a panel query: refusal 10",
         "12 bays each way",
         "some choice of sides",
