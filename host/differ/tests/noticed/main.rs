@@ -28,7 +28,7 @@ use noticing::noticed;
 use std::sync::LazyLock;
 
 const FEW: Amount = Amount {
-    floors: 500,
+    floors: 1_050,
     flipped: 0,
     changes: 2_000,
     queries: 2_000,
