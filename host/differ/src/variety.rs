@@ -133,14 +133,31 @@ fn missing_of_schedules(tally: &Tally) -> Vec<String> {
     .concat()
 }
 
-pub fn floors(tally: &Tally) -> Vec<String> {
-    let refused = |number| Opened::Refused(number);
-    let clear = tally.undamaged.of(&Opened::Clear);
+fn missing_addresses(tally: &Tally) -> Vec<String> {
     let number_places = [
         (&tally.table_addresses, "a table at each of 4 addresses"),
         (&tally.governing_addresses, "a slice at each of 4 addresses"),
         (&tally.places_addresses, "places at each of 4 addresses"),
     ];
+    [
+        unless(
+            tally.floor_addresses.kinds() == 16,
+            "a floor at each of 16 addresses",
+        ),
+        unless(
+            tally.schedule_addresses.kinds() == 16,
+            "a schedule at each of 16 addresses",
+        ),
+        number_places
+            .map(|(places, words)| unless(places.kinds() == 4, words))
+            .concat(),
+    ]
+    .concat()
+}
+
+pub fn floors(tally: &Tally) -> Vec<String> {
+    let refused = |number| Opened::Refused(number);
+    let clear = tally.undamaged.of(&Opened::Clear);
     [
         unless(
             3 * clear >= 2 * tally.undamaged.total(),
@@ -162,17 +179,7 @@ pub fn floors(tally: &Tally) -> Vec<String> {
         unless(tally.sides.kinds() == SIDES, "some choice of sides"),
         missing_bays(tally),
         rare_beams(tally),
-        unless(
-            tally.floor_addresses.kinds() == 16,
-            "a floor at each of 16 addresses",
-        ),
-        unless(
-            tally.schedule_addresses.kinds() == 16,
-            "a schedule at each of 16 addresses",
-        ),
-        number_places
-            .map(|(places, words)| unless(places.kinds() == 4, words))
-            .concat(),
+        missing_addresses(tally),
     ]
     .concat()
 }
