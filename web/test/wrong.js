@@ -44,6 +44,9 @@ const FAULTS = {
     'in the table': () => afterwards('open', (floor, bytes, table, numbers) => flip(table + 4 * Number(numbers) - 4)),
     'in the changed floor': () => afterwards('change', (floor, bytes) => flip(floor + Number(bytes) - 1)),
     'in the places': () => afterwards('places', (floor, bytes, places, numbers) => numbers > 0n && flip(places)),
+    'in the schedule': () => afterwards('schedule', (floor, bytes, schedule, length) => length > 0n && flip(schedule + Number(length) - 1)),
+    'after the schedule': () => afterwards('schedule', (floor, bytes, schedule, length) => flip(schedule + Number(length))),
+    'in the scheduled floor': () => afterwards('schedule', (floor) => flip(floor)),
     'a bit of the answer': () => {
         frames.answer = ({ refusal, value }) => answerRightly({ refusal, value: value ^ 1 });
     },
