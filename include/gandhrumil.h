@@ -19,9 +19,10 @@
 /* Rises by 1 with each change of what is declared here and each change of an answer. docs/CHANGES.md says what a caller must do. */
 #define GANDHRUMIL_VERSION 7
 
-/* A call uses less than GANDHRUMIL_STACK bytes of stack. Measured on floors of 12 by 12 bays, clear and not, the deepest uses less
- * than 7 KiB on aarch64, and in version 1 on x86-64 too, under an emulator; the rest is margin. */
-#define GANDHRUMIL_STACK 16384
+/* A call uses less than GANDHRUMIL_STACK bytes of stack. Measured on floors of 12 by 12 bays, clear and not, on aarch64,
+ * gandhrumil_schedule, which holds a table of its own, uses less than 22 KiB, and every other call less than 7 KiB, in version 1 on
+ * x86-64 too, under an emulator; the rest is margin. */
+#define GANDHRUMIL_STACK 32768
 
 /* So many numbers have room for the places of any floor: there are no more than 793, of four numbers each. With them 25 is never given. */
 #define GANDHRUMIL_PLACES_LEN 3172

@@ -3,7 +3,7 @@
 import { readFileSync } from 'node:fs';
 import { answerCalls } from './answering.js';
 import { Frames } from './frames.js';
-import { Watched } from './watched.js';
+import { STACK_BYTES, Watched } from './watched.js';
 
 const [, , module, fault] = process.argv;
 const library = await Watched.of(readFileSync(module));
@@ -38,7 +38,7 @@ const FAULTS = {
     'after the floor': () => afterwards('clear', (floor, length) => flip(floor + Number(length))),
     'at the end of the memory': () => afterwards('panel', () => flip(right.memory.buffer.byteLength - 1)),
     'in its constants': () => afterwards('steel', () => flip(right.__heap_base.value - 1)),
-    'deep in the stack': () => afterwards('steel', () => flip(right.__stack_pointer.value - 16385)),
+    'deep in the stack': () => afterwards('steel', () => flip(right.__stack_pointer.value - STACK_BYTES - 1)),
     'in the floor': () => afterwards('open', (floor) => flip(floor)),
     'in the change': () => afterwards('change', (...words) => flip(words[6])),
     'in the table': () => afterwards('open', (floor, bytes, table, numbers) => flip(table + 4 * Number(numbers) - 4)),
