@@ -4,10 +4,10 @@
  * needs memcpy and memset, and nothing else.
  *
  * Every call takes any bytes, any lengths and any numbers, and always returns: nothing has to be looked at first. A length counts
- * what its pointer points to: bytes of a floor or a change, numbers of a table, of governing moments or of places. A pointer may
- * be anything, NULL too, where its length is 0. A table, governing moments and places whose length is not 0 must be aligned for
- * uint32_t; a floor and a change may start at any address. The buffers of one call must not overlap, and nobody else may write to
- * them during it.
+ * what its pointer points to: bytes of a floor, a change or a schedule, numbers of a table, of governing moments or of places. A
+ * pointer may be anything, NULL too, where its length is 0. A table, governing moments and places whose length is not 0 must be
+ * aligned for uint32_t; a floor, a change and a schedule may start at any address. The buffers of one call must not overlap, and
+ * nobody else may write to them during it.
  * Nothing is kept between calls, nothing is allocated, and a call touches no memory but its stack and the buffers lent to it.
  */
 #ifndef GANDHRUMIL_H
@@ -17,14 +17,18 @@
 #include <stdint.h>
 
 /* Rises by 1 with each change of what is declared here and each change of an answer. docs/CHANGES.md says what a caller must do. */
-#define GANDHRUMIL_VERSION 6
+#define GANDHRUMIL_VERSION 7
 
-/* A call uses less than GANDHRUMIL_STACK bytes of stack. Measured on floors of 12 by 12 bays, clear and not, the deepest uses less
- * than 7 KiB on aarch64, and in version 1 on x86-64 too, under an emulator; the rest is margin. */
-#define GANDHRUMIL_STACK 16384
+/* A call uses less than GANDHRUMIL_STACK bytes of stack. Measured on floors of 12 by 12 bays, clear and not, on aarch64,
+ * gandhrumil_schedule, which holds a table of its own, uses less than 22 KiB, and every other call less than 7 KiB, in version 1 on
+ * x86-64 too, under an emulator; the rest is margin. */
+#define GANDHRUMIL_STACK 32768
 
 /* So many numbers have room for the places of any floor: there are no more than 793, of four numbers each. With them 25 is never given. */
 #define GANDHRUMIL_PLACES_LEN 3172
+
+/* So many bytes have room for the schedule of any floor: there are no more than 1,872 records, of 32 bytes each. With them 15 is never given. */
+#define GANDHRUMIL_SCHEDULE_LEN 59904
 
 #ifdef __cplusplus
 extern "C" {
@@ -44,6 +48,9 @@ extern "C" {
  *   11  a value of a steel query is out of range
  *   12  no steel area fits
  *   13  governing_len is below 5 * ((ny + 1) * (nx + 1) + (nx + 1) * (ny + 1)); tried right after 8
+ *   15  schedule_len is below 32 * 6 * ((ny + 1) * nx + (nx + 1) * ny)
+ *   16  the verdict is not 0
+ *   17  a strip of the schedule has a width of 0 or less, no steel area that fits, or no bar that allows a spacing
  *   25  places_len is below 4 times the number of the floor's places
  */
 typedef struct {
@@ -100,6 +107,18 @@ gandhrumil_answer gandhrumil_places(const uint8_t *floor, size_t floor_len, uint
  * 500 mm, at the effective depth d, 50 to t - 25 mm, or 0 for t - 26; concrete fc, 20 to 60 MPa, steel fy, 280, 420 or 520 MPa.
  * 11 where a value is out of range, then 12 where no area carries the moment within the steel limits; 0 mm2 where refused. */
 gandhrumil_answer gandhrumil_steel(uint64_t m, uint64_t b, uint64_t t, uint64_t d, uint64_t fc, uint64_t fy);
+
+/* The bar schedule of a clear floor. value is the number of its records, 6 for each record of the table; 0 where refused. A record is 32 bytes, eight
+ * numbers of 32 bits, little-endian:
+ *   the record's number in the table; section, 0 low end, 1 between, 2 high end; strip, 0 column strip, 1 middle strip
+ *   the strip's width in mm: of the column strip without the beam, on an outer line without half of it, rounded up
+ *   the moment in N.cm that gandhrumil_open has there: the slab part of the column strip, the middle part of the middle strip
+ *   the area of steel in mm2 that gandhrumil_steel answers for that moment and width, with the floor's t, fc and fy, and d = 0
+ *   the diameter of the bars in mm, 10, 12 or 16, of 79, 113 and 201 mm2, and their spacing in mm: the largest multiple of 10, from 80 to 2 * t, for
+ *     which bar area * width is at least area * spacing; the smallest bar that allows one is taken
+ * The order is the table's record, then section, then strip. Tries 1 to 7, 16, 15, then 17. Bytes past the schedule are left alone; a refusal writes
+ * nothing. */
+gandhrumil_answer gandhrumil_schedule(const uint8_t *floor, size_t floor_len, uint8_t *schedule, size_t schedule_len);
 
 #ifdef __cplusplus
 }

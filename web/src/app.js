@@ -41,7 +41,7 @@ export class App {
         this.plan = new PlanView(plan, () => this.showPlan());
         this.frame = new FrameView(byId('frame'), (way, line) => this.pick({ sort: 'line', way, number: line }));
         this.sheet = new SheetView(desk, words);
-        this.standing = new StandingView(byId('standing'), byId('limits'), words, (places) => this.point(places));
+        this.standing = new StandingView(byId('standing'), byId('unbarred'), byId('limits'), words, (places) => this.point(places));
         /** @type {Hand} */
         this.hand = {
             floor: () => this.desk.held.floor,

@@ -2,10 +2,12 @@
 
 import { floorOf } from './floor.js';
 import { GOVERNING_LEN, PLACES_LEN, TABLE_LEN } from './library.js';
+import { scheduleOf } from './schedule.js';
 
 /** @typedef {import('./floor.js').Floor} Floor */
 /** @typedef {import('./floor.js').Way} Way */
 /** @typedef {import('./library.js').Library} Library */
+/** @typedef {import('./schedule.js').Schedule} Schedule */
 /**
  * Where a limit is broken; the header says what way, i and j are for each limit.
  * @typedef {{limit: number, way: Way, i: number, j: number}} Place
@@ -16,7 +18,8 @@ import { GOVERNING_LEN, PLACES_LEN, TABLE_LEN } from './library.js';
  */
 /**
  * `least[j][i]` is the least thickness of the panel of x bay i and y bay j.
- * @typedef {{bytes: Uint8Array, floor: Floor, verdict: number, places: Place[], least: number[][], table: Uint32Array, governing: Uint32Array}} Judged
+ * @typedef {{bytes: Uint8Array, floor: Floor, verdict: number, places: Place[], least: number[][], table: Uint32Array, governing: Uint32Array,
+ *     schedule: Schedule}} Judged
  */
 
 /** @param {Library} library @param {Uint8Array} bytes @returns {Judged | Refused} */
@@ -58,7 +61,7 @@ function judgedOf(library, bytes, verdict, table, governing) {
         throw new Error('an accepted floor is laid out as 01 lists it');
     }
     const least = floor.spans.y.map((_, j) => floor.spans.x.map((_, i) => library.panel(bytes, i, j).value));
-    return { bytes, floor, verdict, places: placesOf(library, bytes), least, table, governing };
+    return { bytes, floor, verdict, places: placesOf(library, bytes), least, table, governing, schedule: scheduleOf(library, bytes) };
 }
 
 /** @param {Library} library @param {Uint8Array} bytes @returns {Place[]} */

@@ -1,11 +1,12 @@
-// The six calls of include/gandhrumil.h, made in the proved module, as functions of typed arrays. Every call takes any bytes, lengths and numbers.
+// The seven calls of include/gandhrumil.h, made in the proved module, as functions of typed arrays. Every call takes any bytes, lengths and numbers.
 
 /** @typedef {{refusal: number, value: number}} Answer */
 
-/** Numbers enough for the table, the governing moments and the places of any floor. */
+/** Numbers enough for the table, the governing moments and the places of any floor, and bytes enough for its schedule. */
 export const TABLE_LEN = 16 * 2 * 13 * 12;
 export const GOVERNING_LEN = 5 * 2 * 13 * 13;
 export const PLACES_LEN = 3172;
+export const SCHEDULE_LEN = 59904;
 
 const PAGE_BYTES = 65536;
 
@@ -87,6 +88,11 @@ export class Library {
     /** @param {Uint8Array} floor @param {Uint32Array} places */
     places(floor, places) {
         return this.call('places', [floor, places]);
+    }
+
+    /** @param {Uint8Array} floor @param {Uint8Array} schedule */
+    schedule(floor, schedule) {
+        return this.call('schedule', [floor, schedule]);
     }
 
     /** @param {Record<'m' | 'b' | 't' | 'd' | 'fc' | 'fy', number | bigint>} query */

@@ -77,6 +77,20 @@ function holdFiles(app) {
     });
     byId('save').addEventListener('click', () => saveAs(`${app.desk.name}.floor`, app.desk.held.bytes, 'application/octet-stream'));
     byId('save-text').addEventListener('click', () => saveAs(`${app.desk.name}.txt`, writeText(app.desk.held.floor), 'text/plain'));
+    byId('save-schedule').addEventListener('click', () => saveSchedule(app));
+}
+
+/**
+ * Where there is no schedule, nothing is saved and the refusal is said.
+ * @param {App} app
+ */
+function saveSchedule(app) {
+    const { name, held: { bytes, schedule } } = app.desk;
+    if (schedule.refusal === 0) {
+        saveAs(`${name}.schedule`, schedule.bytes, 'application/octet-stream');
+    } else {
+        app.say(schedule.refusal, [...app.why(bytes, schedule.refusal), 'No schedule is saved.']);
+    }
 }
 
 /** With Ctrl, or with the command key of a Mac, a key presses its button. In a dialog keys are the browser's own. */
@@ -119,6 +133,7 @@ function handles(app) {
         verdict: () => desk.held.verdict,
         table: () => desk.held.table.slice(),
         governing: () => desk.held.governing.slice(),
+        schedule: () => desk.held.schedule.bytes.slice(),
         take: (/** @type {Uint8Array[]} */ records) => desk.take(records) ?? { verdict: desk.held.verdict },
         open: (/** @type {Uint8Array} */ bytes, /** @type {string} */ name) => desk.open(bytes, name) ?? { verdict: desk.held.verdict },
         undo: () => desk.undo(),

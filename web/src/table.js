@@ -46,10 +46,17 @@ function sectionAt(numbers, start) {
     return { total, column, middle, beam, slab };
 }
 
+/**
+ * The number of a span's record in the table.
+ * @param {Floor} floor @param {Way} way @param {number} line @param {number} span
+ */
+export function recordNumber(floor, way, line, span) {
+    return placeOf(floor, way, line, (along) => floor.spans[along].length) + span;
+}
+
 /** @param {Judged} judged @param {Way} way @param {number} line @param {number} span @returns {SpanRecord} */
 export function spanRecord({ floor, table }, way, line, span) {
-    const place = placeOf(floor, way, line, (along) => floor.spans[along].length) + span;
-    const start = RECORD_NUMBERS * place;
+    const start = RECORD_NUMBERS * recordNumber(floor, way, line, span);
     const [low, between, high] = [1, 6, 11].map((number) => sectionAt(table, start + number));
     return { mo: table[start], low, between, high };
 }

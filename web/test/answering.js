@@ -1,4 +1,4 @@
-// The six calls made as frames ask for them, one frame in, one out.
+// The seven calls made as frames ask for them, one frame in, one out.
 
 import { Frames } from './frames.js';
 
@@ -12,11 +12,12 @@ import { Frames } from './frames.js';
  */
 const CALLS = {
     1: (library, { floor, slices: [table, governing] }) => library.open(floor, table, governing),
-    2: (library, { floor, slices: [table, governing], change }) => library.change(floor, table, governing, change),
+    2: (library, { floor, slices: [table, governing], bytes }) => library.change(floor, table, governing, bytes),
     3: (library, { floor, numbers: [x, y] }) => library.panel(floor, x, y),
     4: (library, { floor }) => library.clear(floor),
     5: (library, { floor, slices: [places] }) => library.places(floor, places),
     6: (library, { numbers: [m, b, t, d, fc, fy] }) => library.steel({ m, b, t, d, fc, fy }),
+    7: (library, { floor, bytes }) => library.schedule(floor, bytes),
 };
 
 /** @param {Library} library @param {Frames} frames */

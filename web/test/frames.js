@@ -3,8 +3,9 @@
 import { readSync, writeSync } from 'node:fs';
 
 /**
- * `slices` are the table and the governing slice, or the slice for places; `numbers` the panel's bays, or the steel query.
- * @typedef {{call: number, slices: Uint32Array[], floor: Uint8Array, change: Uint8Array, numbers: BigUint64Array}} Frame
+ * `slices` are the table and the governing slice, or the slice for places; `bytes` the change, or the buffer for the schedule; `numbers` the panel's
+ * bays, or the steel query.
+ * @typedef {{call: number, slices: Uint32Array[], floor: Uint8Array, bytes: Uint8Array, numbers: BigUint64Array}} Frame
  */
 
 /** Six numbers of 32 bits (which frame it is, the call, four lengths), then six of 64. */
@@ -29,18 +30,18 @@ export class Frames {
             return null;
         }
         const [number, call, ...lengths] = new Uint32Array(this.bytes.buffer, 0, 6);
-        const [first, second, floor, change] = lengths;
+        const [first, second, floor, bytes] = lengths;
         const secondAt = HEAD_BYTES + 4 * first;
         const floorAt = secondAt + 4 * second;
-        const changeAt = floorAt + floor;
-        this.fill(changeAt + change);
+        const bytesAt = floorAt + floor;
+        this.fill(bytesAt + bytes);
         this.number = number;
         const { buffer } = this.bytes;
         return {
             call,
             slices: [new Uint32Array(buffer, HEAD_BYTES, first), new Uint32Array(buffer, secondAt, second)],
             floor: new Uint8Array(buffer, floorAt, floor),
-            change: new Uint8Array(buffer, changeAt, change),
+            bytes: new Uint8Array(buffer, bytesAt, bytes),
             numbers: new BigUint64Array(buffer, PLAIN_AT, 6),
         };
     }

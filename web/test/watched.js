@@ -3,7 +3,7 @@
 import { Library } from '../src/library.js';
 
 /** GANDHRUMIL_STACK of include/gandhrumil.h. */
-const STACK_BYTES = 16384;
+export const STACK_BYTES = 32768;
 
 export class Watched extends Library {
     /** @param {WebAssembly.Instance} instance */

@@ -3,7 +3,7 @@
 import { readFileSync } from 'node:fs';
 import { answerCalls } from './answering.js';
 import { Frames } from './frames.js';
-import { Watched } from './watched.js';
+import { STACK_BYTES, Watched } from './watched.js';
 
 const [, , module, fault] = process.argv;
 const library = await Watched.of(readFileSync(module));
@@ -38,12 +38,15 @@ const FAULTS = {
     'after the floor': () => afterwards('clear', (floor, length) => flip(floor + Number(length))),
     'at the end of the memory': () => afterwards('panel', () => flip(right.memory.buffer.byteLength - 1)),
     'in its constants': () => afterwards('steel', () => flip(right.__heap_base.value - 1)),
-    'deep in the stack': () => afterwards('steel', () => flip(right.__stack_pointer.value - 16385)),
+    'deep in the stack': () => afterwards('steel', () => flip(right.__stack_pointer.value - STACK_BYTES - 1)),
     'in the floor': () => afterwards('open', (floor) => flip(floor)),
     'in the change': () => afterwards('change', (...words) => flip(words[6])),
     'in the table': () => afterwards('open', (floor, bytes, table, numbers) => flip(table + 4 * Number(numbers) - 4)),
     'in the changed floor': () => afterwards('change', (floor, bytes) => flip(floor + Number(bytes) - 1)),
     'in the places': () => afterwards('places', (floor, bytes, places, numbers) => numbers > 0n && flip(places)),
+    'in the schedule': () => afterwards('schedule', (floor, bytes, schedule, length) => length > 0n && flip(schedule + Number(length) - 1)),
+    'after the schedule': () => afterwards('schedule', (floor, bytes, schedule, length) => flip(schedule + Number(length))),
+    'in the scheduled floor': () => afterwards('schedule', (floor) => flip(floor)),
     'a bit of the answer': () => {
         frames.answer = ({ refusal, value }) => answerRightly({ refusal, value: value ^ 1 });
     },

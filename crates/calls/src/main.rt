@@ -5,16 +5,18 @@
 // the call asks for:
 //
 //     1  open
-//     2  change   its length, then its bytes
-//     3  panel    x bay, y bay: two words each, the low one first
-//     4  steel    m, b, t, d, fc, fy: two words each, the low one first
+//     2  change    its length, then its bytes
+//     3  panel     x bay, y bay: two words each, the low one first
+//     4  steel     m, b, t, d, fc, fy: two words each, the low one first
 //     5  show
 //     6  clear
-//     7  places   how many numbers the slice has, then these
+//     7  places    how many numbers the slice has, then these
+//     8  schedule  the buffer's length, then its bytes
 //
 // `show` prints the floor's bytes, then all the numbers of the table and of the governing slice, past their records too, each on a line of its
-// own; the others print refusal and value on a line, and `places` all the numbers of its slice after them. The program stops at a batch without calls,
-// which is what the end of the input reads as, at a length that its buffers have no room for, and at a word that is no call.
+// own; the others print refusal and value on a line, and after them `places` all the numbers of its slice, `schedule` all the bytes of its buffer.
+// The program stops at a batch without calls, which is what the end of the input reads as, at a length that its buffers have no room for, and at a
+// word that is no call.
 ghost use Prim.Native.Nat.{_*_, _≤_};
 ghost use lib.ListN.{length};
 ghost use Rattle.tables.specs.Width.{recordWidth};
@@ -25,6 +27,7 @@ use gandhrumil::gandhrumil_clear;
 use gandhrumil::gandhrumil_open;
 use gandhrumil::gandhrumil_panel;
 use gandhrumil::gandhrumil_places;
+use gandhrumil::gandhrumil_schedule;
 use gandhrumil::gandhrumil_steel;
 use libc::STDIN_FILENO;
 use libc::STDOUT_FILENO;
@@ -46,6 +49,9 @@ const LONGEST_CHANGE: usize = 64;
 
 // Ten places more than the largest floor has, of four numbers each.
 const LONGEST_PLACES: usize = 803 * 4;
+
+// Three schedule records more than the largest floor has, of 32 bytes each.
+const LONGEST_SCHEDULE: usize = 1875 * 32;
 
 // The next word of the input, 0 past its end.
 fn word() -> u32 {
@@ -79,14 +85,18 @@ fn show_byte(byte: u8) {
     io::write_all(STDOUT_FILENO, b"\n");
 }
 
+fn show_bytes(bytes: &[u8]) {
+    let mut i: usize = 0;
+    while i < bytes.len() {
+        show_byte(bytes[i]);
+        i += 1;
+    }
+}
+
 fn show(floor: &[u8], table: &[u32], governing: &[u32])
     requires { ⌜ Shown (now table) (now governing) ⌝ }
 {
-    let mut i: usize = 0;
-    while i < floor.len() {
-        show_byte(floor[i]);
-        i += 1;
-    }
+    show_bytes(floor);
     write_rows(table, 1, table.len());
     write_rows(governing, 1, governing.len());
 }
@@ -124,6 +134,22 @@ fn places(floor: &[u8]) -> bool {
     true
 }
 
+fn read_and_schedule(floor: &[u8], bytes: &mut [u8]) {
+    io::read_full(STDIN_FILENO, bytes);
+    show_answer(gandhrumil_schedule(floor, bytes));
+    show_bytes(bytes);
+}
+
+fn schedule(floor: &[u8]) -> bool {
+    let mut bytes = [0u8; LONGEST_SCHEDULE];
+    let n = word() as usize;
+    if n > LONGEST_SCHEDULE {
+        return false;
+    }
+    read_and_schedule(floor, &mut bytes[..n]);
+    true
+}
+
 // Makes the next call, and answers whether there was one.
 fn call(floor: &mut [u8], table: &mut [u32], governing: &mut [u32]) -> bool
     requires { ⌜ Shown (now table) (now governing) ⌝ }
@@ -136,6 +162,7 @@ fn call(floor: &mut [u8], table: &mut [u32], governing: &mut [u32]) -> bool
         5 => show(floor, table, governing),
         6 => show_answer(gandhrumil_clear(floor)),
         7 => return places(floor),
+        8 => return schedule(floor),
         _ => return false,
     }
     true

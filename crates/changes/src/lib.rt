@@ -67,7 +67,7 @@ fn change_place(b: Bays, c: &[u8]) -> u32
 }
 
 // The bytes of src stored from `at` on.
-fn store_at(dst: &mut [u8], at: usize, src: &[u8])
+pub fn store_at(dst: &mut [u8], at: usize, src: &[u8])
     requires { ⌜ at + length (now src) ≤ length (now dst) ⌝ }
     ensures { λ _. ⌜ now (dst .exit) ≡ stored (now (dst .entry)) at (now (src .entry)) ⌝ }
 {

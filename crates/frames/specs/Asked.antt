@@ -1,8 +1,9 @@
 -- What leaves ask of their callers. A reader who only wants to know what the program does need not read this file.
 -- Assumes nothing.
-use Prim.Native.Nat.{ℕ, _≤_, _<_}
+use Prim.Native.Nat.{ℕ, _+_, _*_, _≤_, _<_}
 use mathlib.Core.List.{List}
 use mathlib.Core.Path.{_≡_}
+use lib.ListN.{getD}
 use Rattle.plan.specs.declared.ways.Way.{Way}
 use Rattle.plan.specs.Plan.{bays, many, lastLine}
 use Rattle.floor.specs.Refusal.{refusal}
@@ -16,7 +17,9 @@ use Rattle.spans.specs.Views.{lineView}
 use Rattle.spans.specs.Works.{alphaOf, lineWork}
 use Rattle.tables.specs.declared.named.Spans.{Spans}
 use Rattle.tables.specs.Places.{recordCount, placeOf}
+use Rattle.tables.specs.Width.{recordWidth}
 use Rattle.tables.specs.Asked.{Room}
+use Rattle.frames.specs.Table.{recordAt}
 
 -- a floor whose moments stand, what all its spans share, and a table that has room for them
 pub record Standing (f t : List ℕ) (slab : Slab) : Type 0 where
@@ -24,6 +27,12 @@ pub record Standing (f t : List ℕ) (slab : Slab) : Type 0 where
   pub clear : verdict f ≡ 0
   pub shared : slab ≡ slabOf f
   pub table : Room (recordCount f) t
+
+-- record k of such a floor, and a table that has it
+pub record AtRecord (f : List ℕ) (slab : Slab) (t : List ℕ) (k : ℕ) : Type 0 where
+  pub standing : Standing f t slab
+  pub below : k < recordCount f
+  pub holds : (n : ℕ) → n < recordWidth → getD t (k * recordWidth + n) 0 ≡ getD (recordAt f k) n 0
 
 -- the floor has a record of this kind and index
 pub record Listed (f : List ℕ) (kind index : ℕ) : Type 0 where

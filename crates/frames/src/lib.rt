@@ -1,4 +1,6 @@
 // The frames of a floor whose moments stand, written to the lent table line by line.
+pub mod span;
+
 ghost use mathlib.Core.Path.{_≡_};
 ghost use Prim.Native.Nat.{_+_, _*_, _-_};
 ghost use Rattle.numbers.specs.Records.{put, writtenFrom, every};

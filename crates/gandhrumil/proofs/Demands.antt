@@ -1,6 +1,6 @@
 -- The three demands, each from the laws of the layer that keeps it.
 -- Assumes nothing.
-use Prim.Native.Nat.{ℕ, zero, suc, _+_, _*_, _<_}
+use Prim.Native.Nat.{ℕ, zero, suc, _+_, _*_, _/_, _%_, _<_}
 use mathlib.Core.List.{List}
 use mathlib.Core.Logic.{_↔_}
 use mathlib.Core.Path.{_≡_, refl, sym, ap, subst, _∙_}
@@ -8,7 +8,7 @@ use native.Mathlib.Omega.{arith}
 use lib.ListN.{getD}
 use lib.Seq.{ext-getD}
 use borrow.Author.Tests.{ne-eqb}
-use Rattle.numbers.proofs.Tests.{says-eq, by-says}
+use Rattle.numbers.proofs.Tests.{says-eq, by-test, by-says}
 use Rattle.floor.specs.Refusal.{refusal, Given}
 use Rattle.floor.proofs.Meaning.{given}
 use Rattle.changes.specs.Change.{changeKind, changeIndex, changed}
@@ -20,9 +20,13 @@ use Rattle.clear.specs.Answers.{clearOf}
 use Rattle.clear.proofs.Answers.{clear-answer}
 use Rattle.broken.proofs.Meaning.{listed-broken, none-listed}
 use Rattle.broken.proofs.Answers.{places-answer}
-use Rattle.broken.proofs.Most.{never-short}
+use Rattle.broken.proofs.Most as places
 use Rattle.plan.specs.Plan.{baysOf}
-use Rattle.tables.specs.Places.{Place}
+use Rattle.tables.specs.Width.{recordWidth}
+use Rattle.tables.specs.Places.{Place, recordCount, placeOf}
+use Rattle.tables.proofs.Numbered.{place-inside, place-number}
+use Rattle.frames.specs.Table.{viewAt}
+use Rattle.frames.specs.Spans.{spanAt}
 use Rattle.supports.specs.Governing.{supportWidth, fiveFrom, supportNumber, supportIn}
 use Rattle.supports.specs.Meaning.{GoverningAt}
 use Rattle.supports.proofs.Faces.{length-on}
@@ -38,7 +42,12 @@ use Rattle.moments.proofs.Meaning.{earned, lent-of, lent-of-one, opening-says, 
 use Rattle.moments.proofs.Sums.{adds-up}
 use Rattle.moments.proofs.Governed.{agrees-at, by-zeros}
 use Rattle.moments.proofs.Demand.{taken-of, morning, at-its-end}
+use Rattle.steel.specs.Strips.{strips, byStrip, momentNumber, stripMoment}
 use Rattle.steel.proofs.Answers.{steel-answer}
+use Rattle.steel.proofs.Inside.{in-range}
+use Rattle.steel.proofs.Lacking.{seventeen}
+use Rattle.steel.proofs.Meaning as schedules
+use Rattle.steel.proofs.Meaning.{schedule-answer}
 use Rattle.gandhrumil.specs.Demands.{Told, DemandOne, DemandTwo, DemandThree}
 
 -- the five numbers of a support in the slice are the support's by the table, where the two agree
@@ -124,6 +133,18 @@ module _ {f : List ℕ} {l l′ : Lent} {a : Answer} (o : Opened f l a l′) whe
         sym (given _ f .1 (c .given)) ∙ same-number room,
       )
 
+  -- of record k of the table, the number for strip q of its span
+  scheduled-moments : a .refusal ≡ 0 → a .value ≡ 0 → (k q : ℕ) → k < recordCount f → q < strips
+      → stripMoment (spanAt f k) q ≡ getD (l′ .table) (k * recordWidth + momentNumber q) 0
+  unfolding stripMoment momentNumber spanAt viewAt
+  scheduled-moments z v k q below six =
+      let t = open-told z in
+      sym (ap (λ (j : ℕ). getD (l′ .table) (j * recordWidth + momentNumber q) 0) (sym (place-number f below))
+      ∙ t .moments (clear-is (t .verdict) .0 v) (placeOf f k) (place-inside f below) .0 (momentNumber q) (within q six))
+    where
+      within : (q : ℕ) → q < 6 → 1 + 5 * (q / 2) + byStrip q 4 2 < recordWidth
+      within q six = by-test (λ (n : ℕ). 1 + 5 * (q / 2) + n < recordWidth) (says-eq (q % 2) 0) (λ _. omega arith) (λ _. omega arith)
+
 -- ---- a change
 
 module _ {f c f′ : List ℕ} {l l′ : Lent} {a : Answer} (o : Changed f l c a f′ l′) where
@@ -174,6 +195,7 @@ demand-one =
       steel = steel-answer;
       clear = clear-answer;
       places = λ {f = f} {t} p. places-answer f t p;
+      schedule = λ {f = f} {t} p. schedule-answer f t p;
     }
 
 pub demand-two : DemandTwo
@@ -184,7 +206,11 @@ demand-two =
       change = change-verdict;
       clear = open-clear;
       places = λ o z h. (broken-one (listed-broken h) (open-told o z .verdict), none-listed h);
-      suffices = λ {f = f} p h. given _ f .0 (never-short f p h);
+      suffices = λ {f = f} p h. given _ f .0 (places.never-short f p h);
+      moments = scheduled-moments;
+      inside = λ f g c k q below wide. let e = given 0 f .1 g in in-range f e (clear-is (broken f e) .1 c) below q wide;
+      seventeen = λ {f = f} g c room p. let e = given 0 f .1 g in seventeen f e (clear-is (broken f e) .1 c) room p;
+      schedule-suffices = schedules.never-short;
       steel = λ q h. let s = steel-answer q in
           ((λ e. s .found .0 e .1, λ some. s .found .1 (h, some)), (λ e. s .none .0 e .1, λ no. s .none .1 (h, no)), s .least);
     }

@@ -54,6 +54,7 @@ use Rattle.broken.specs.Answers.{hasRoom, Placed}
 use Rattle.broken.proofs.Answers.{no-room, has-room, refused-is, listed-is}
 use Rattle.gandhrumil.specs.Examples.{oneBay, garage, moved, lighter, firstSpan, Example, Examples}
 use Rattle.gandhrumil.proofs.Demands.{demand-two}
+use Rattle.gandhrumil.proofs.SchedulesHold.{garage-scheduled, garage-refused, not-scheduled}
 
 -- ---- by computing
 
@@ -61,9 +62,9 @@ abbrev first : Place
 first = record { way = X; line = 0; span = 0 }
 
 computed : (refusal oneBay ≡ 0) × (verdict oneBay ≡ 1) × (refusal garage ≡ 0) × (verdict garage ≡ 0) × (changeRefusal garage lighter ≡ 0)
-    × (refusal (changed garage lighter) ≡ 0) × (verdict (changed garage lighter) ≡ 0) × (recordOf (viewIn garage first) ≡ firstSpan) × (bays garage X ≡ 5) × (clearOf [] ≡ answer 1 0) × (refusal moved ≡ 0)
+    × (refusal (changed garage lighter) ≡ 0) × (verdict (changed garage lighter) ≡ 0) × (recordOf (viewIn garage first) ≡ firstSpan) × (bays garage X ≡ 5) × (clearOf [] ≡ answer 1 0) × (refusal moved ≡ 0) × (verdict moved ≡ 68)
 unfolding clearOf changeOk changed changeChecks changeRefusal countOk everyRecord firstOk floorChecks kindOk lengthOk recordOk refusal valueChecks beamsOk keeps kept keptAlong layoutOf adjoining astray astrayColumn few heavy slenderPanel somePair sumOf thinPanel unbalanced unequalPanel uneven verdict below clearSpan lineAlpha outerPanel pairAlpha panelPlace panelThickness panelView weakEdge slabOf tried put until le16 le32 bays offset value changeable countOf startOf total unlistedZero beamOk columnOk columnsOk loadsOk materialsOk offsetOk sidesOk sizesOk spanOk valuesOk betweenStrips endStrips outerPart percentsOf recordOf highEnd lineView lowEnd outerEnd viewOf spanWork alpha columnStripWidth frameWidth transverseSpan edgeTorsion flange flangedInertia inertia torsion endPercent endRow clearLength staticMoment spanRatio stiffnessRatio torsionRatio beamShare outerNegative part split answerOf01 divisor leastThickness middling raised raises stiff tabled
-computed = (refl, refl, refl, refl, refl, refl, refl, refl, refl, refl, refl)
+computed = (refl, refl, refl, refl, refl, refl, refl, refl, refl, refl, refl, refl)
 
 -- ---- from that
 
@@ -116,7 +117,7 @@ placed = (refl, refl, refl)
 pub examples-hold : Examples
 unfolding numbersOf
 examples-hold =
-    let (one-accepted, one-verdict, accepted, clear, taken, accepted-after, clear-after, numbers, five, nothing, moved-accepted) = computed in
+    let (one-accepted, one-verdict, accepted, clear, taken, accepted-after, clear-after, numbers, five, nothing, moved-accepted, moved-verdict) = computed in
     record {
       one-bay = example one-accepted one-verdict;
       five-by-four = example accepted clear;
@@ -127,5 +128,8 @@ examples-hold =
       one-bay-short = λ p short. refused-25 oneBay one-accepted (placed .0) p short;
       moved-places = λ p room. located moved moved-accepted (placed .2) p room;
       garage-places = λ p. located garage accepted (placed .1) p zero-le;
+      garage-schedule = λ p room. garage-scheduled accepted clear p room;
+      garage-short = λ p short. garage-refused accepted clear p short;
+      moved-schedule = λ p. not-scheduled moved-accepted (λ z. omega (arith, z, moved-verdict)) p;
       nothing = nothing;
     }

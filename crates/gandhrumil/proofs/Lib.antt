@@ -1,3 +1,4 @@
 pub mod FiguresHold
 pub mod Demands
+pub mod SchedulesHold
 pub mod ExamplesHold

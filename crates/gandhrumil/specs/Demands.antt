@@ -1,14 +1,16 @@
 -- The three demands on the product, in their own words, as statements about what the exported functions promise. proofs/Demands shows them.
 -- `Opened` and `Changed` are the promises of opening and of a change (crate moments), `panelOf` that of the panel query (crate verdict), `clearOf` that of
--- the question whether a floor is clear (crate clear), `Placed` that of the list of places where a limit is broken (crate broken), `steelOf` that of the steel query (crate
--- steel); none of them asks anything of the caller. What these say is said here by statements: `GivenBy` a chain of checks in the order tried, `Broken`,
--- `Clear`, `Places`, `PanelEnough`, `Fits`, `rightNumber`, the number that the rules give, and `GoverningAt`, the five of a support.
+-- the question whether a floor is clear (crate clear), `Placed` that of the list of places where a limit is broken (crate broken), `steelOf` that of the steel query and
+-- `Scheduled` that of the bar schedule (crate steel); none of them asks anything of the caller. What these say is said here by statements: `GivenBy` a chain of checks in the
+-- order tried, `Broken`, `Clear`, `Places`, `PanelEnough`, `Fits`, `rightNumber`, the number that the rules give, `GoverningAt`, the five of a support, and `ScheduleOf`, the
+-- records of the schedule.
 -- Assumes nothing.
-use Prim.Native.Nat.{ℕ, _*_, _≤_, _<_}
+use Prim.Native.Nat.{ℕ, _+_, _*_, _≤_, _<_}
 use mathlib.Core.List.{List}
 use mathlib.Core.Logic.{_↔_}
 use mathlib.Core.Path.{_≡_}
 use lib.ListN.{length, getD}
+use Rattle.numbers.specs.Chains.{GivenBy}
 use Rattle.numbers.specs.Least.{Least}
 use Rattle.floor.specs.Refusal.{Given}
 use Rattle.changes.specs.Change.{changeKind, changeIndex, changed}
@@ -20,6 +22,7 @@ use Rattle.broken.specs.Meaning.{PlaceList, Places, limitsListed}
 use Rattle.broken.specs.Answers.{placesMost, Placed, PlacesAnswer}
 use Rattle.tables.specs.Width.{recordWidth}
 use Rattle.tables.specs.Places.{Place, Inside, recordCount}
+use Rattle.frames.specs.Spans.{spanAt}
 use Rattle.plan.specs.Plan.{baysOf}
 use Rattle.supports.specs.Governing.{supportWidth, fiveFrom, supportNumber}
 use Rattle.supports.specs.Meaning.{GoverningAt}
@@ -33,6 +36,10 @@ use Rattle.steel.specs.declared.query.Query.{Query}
 use Rattle.steel.specs.Query.{InRange}
 use Rattle.steel.specs.Area.{Fits}
 use Rattle.steel.specs.Steel.{SteelAnswer, steelOf}
+use Rattle.steel.specs.Strips.{strips, stripWidth, momentNumber, stripMoment}
+use Rattle.steel.specs.Barred.{queryIn, SomeLacks}
+use Rattle.steel.specs.Schedule.{scheduleLength, Scheduled}
+use Rattle.steel.specs.Meaning.{ScheduleAnswer, scheduleMost, roomyChecks}
 
 -- "Every input gets an answer: a floor file, a change, a panel or a steel query, however damaged. Nothing relies on the caller having looked first.
 -- A refusal carries its number from the table, and the lent floor and moment table keep what they held."
@@ -49,6 +56,8 @@ pub record DemandOne : Type 0 where
   pub clear : (f : List ℕ) → ClearAnswer f (clearOf f)
   -- beyond 02, where it is broken: "a place is listed exactly where its limit's statement holds there, each once, in that order"
   pub places : {f t t′ : List ℕ} {a : Answer} → Placed f t a t′ → PlacesAnswer f t a t′
+  -- 02, Five: "Order: 1 to 7, 16, 15, 17. A refused schedule writes nothing", and otherwise every record, to the byte
+  pub schedule : {f t t′ : List ℕ} {a : Answer} → Scheduled f t a t′ → ScheduleAnswer f t a t′
 
 -- What verdict v and the table tell of floor f: which limits are broken; if none is, every number is the one that the rules give, and the three
 -- parts of each section add up; otherwise all numbers are 0. The governing slice agrees with the table, and is 0 where the table is (02, One).
@@ -80,6 +89,16 @@ pub record DemandTwo : Type 0 where
       → (limitsListed ps ≡ a .value) × ((length ps ≡ 0) ↔ Clear f)
   -- in a slice of `placesMost` numbers or more the number is the floor's own, 0 to 7: never 25
   pub suffices : {f t t′ : List ℕ} {a : Answer} → Placed f t a t′ → placesMost ≤ length t → Given (a .refusal) f
+  -- 02, Five: "as 01 works them out for this floor": the moment of each record is the number that opening puts into the table
+  pub moments : {f : List ℕ} {l l′ : Lent} {a : Answer} → Opened f l a l′ → a .refusal ≡ 0 → a .value ≡ 0
+      → (k q : ℕ) → k < recordCount f → q < strips → stripMoment (spanAt f k) q ≡ getD (l′ .table) (k * recordWidth + momentNumber q) 0
+  -- the schedule's queries are in range, so that 11 cannot arise inside
+  pub inside : (f : List ℕ) → Given 0 f → Clear f → (k q : ℕ) → k < recordCount f → 0 < stripWidth (spanAt f k) q → InRange (queryIn f k q)
+  -- so 17 is given, of a clear floor with room for its schedule, exactly where some strip has "a strip width of 0 or less, no steel area that fits, or no bar that
+  -- allows a spacing"
+  pub seventeen : {f t t′ : List ℕ} {a : Answer} → Given 0 f → Clear f → scheduleLength f ≤ length t → Scheduled f t a t′ → (a .refusal ≡ 17) ↔ SomeLacks f
+  -- in a buffer of `scheduleMost` bytes or more 15 is not given
+  pub schedule-suffices : {f t t′ : List ℕ} {a : Answer} → Scheduled f t a t′ → scheduleMost ≤ length t → GivenBy (roomyChecks f) (a .refusal)
   pub steel : (q : Query) → InRange q
       → ((steelOf q .refusal ≡ 0) ↔ ((As : ℕ) × Fits q As))
       × ((steelOf q .refusal ≡ 12) ↔ ((As : ℕ) → ¬ Fits q As))

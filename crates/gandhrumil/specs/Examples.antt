@@ -1,10 +1,11 @@
--- Two floors and a change written out, to show that the promises are not vacuous. proofs/ExamplesHold shows what is said of them, by computing.
+-- Three floors and a change written out, to show that the promises are not vacuous. proofs/ExamplesHold shows what is said of them, by computing.
 -- Assumes nothing.
-use Prim.Native.Nat.{ℕ, zero, suc, _/_, _%_, _≤_, _<_}
+use Prim.Native.Nat.{ℕ, zero, suc, _+_, _*_, _/_, _%_, _≤_, _<_}
 use mathlib.Core.List.{List, [], _∷_, _++_}
 use mathlib.Core.Path.{_≡_}
 use lib.Dec.{eqb}
 use lib.ListN.{length, getD, drop}
+use Rattle.plan.specs.Fields.{le32}
 use Rattle.floor.specs.Refusal.{Given}
 use Rattle.changes.specs.Change.{changed}
 use Rattle.limits.specs.Meaning.{Broken}
@@ -17,6 +18,8 @@ use Rattle.moments.specs.Lent.{Lent}
 use Rattle.moments.specs.Tables.{Lodged}
 use Rattle.moments.specs.Opening.{Opened}
 use Rattle.moments.specs.Changing.{Changed}
+use Rattle.bars.specs.Entries.{entryNumbers}
+use Rattle.steel.specs.Schedule.{Scheduled}
 
 -- ---- how a file is put together
 
@@ -98,6 +101,18 @@ firstSpan =
     ∷ 17035200 ∷ 13241460 ∷ 3793740 ∷ 11255241 ∷ 1986219
     ∷ []
 
+-- and its first strips in the schedule, at the low end: record, section, strip, width, moment, area, diameter, spacing. The column strip's width is wc, a quarter of
+-- 6,000 and half of the column's 500, less half of the beam's 400
+abbrev pub firstStrip : List ℕ
+firstStrip = 0 ∷ 0 ∷ 0 ∷ 1550 ∷ 515378 ∷ 558 ∷ 10 ∷ 210 ∷ []
+
+abbrev pub secondStrip : List ℕ
+secondStrip = 0 ∷ 0 ∷ 1 ∷ 1500 ∷ 457907 ∷ 540 ∷ 10 ∷ 210 ∷ []
+
+-- and the middle strip at the high end, where the moment asks for more than the minimum
+abbrev pub sixthStrip : List ℕ
+sixthStrip = 0 ∷ 2 ∷ 1 ∷ 1500 ∷ 3793740 ∷ 588 ∷ 10 ∷ 200 ∷ []
+
 pub record Examples : Type 0 where
   pub one-bay : Example oneBay 1
   pub five-by-four : Example garage 0
@@ -114,5 +129,11 @@ pub record Examples : Type 0 where
   pub garage-places : {t t′ : List ℕ} {a : Answer} → Placed garage t a t′ → (a ≡ answer 0 0) × (t′ ≡ t)
   pub moved-places : {t t′ : List ℕ} {a : Answer} → Placed moved t a t′ → 16 ≤ length t
       → (a ≡ answer 0 4) × (t′ ≡ 4 ∷ 0 ∷ 2 ∷ 0 ∷ 64 ∷ 0 ∷ 2 ∷ 1 ∷ 64 ∷ 0 ∷ 2 ∷ 2 ∷ 64 ∷ 0 ∷ 2 ∷ 3 ∷ drop 16 t)
+  -- the garage's 49 records have 294 in the schedule, 9,408 bytes; three of the first six are these; a shorter buffer is refused 15
+  pub garage-schedule : {t t′ : List ℕ} {a : Answer} → Scheduled garage t a t′ → 9408 ≤ length t
+      → (a ≡ answer 0 294) × ((n : ℕ) → n < entryNumbers → (le32 t′ (n * 4) ≡ getD firstStrip n 0) × (le32 t′ (32 + n * 4) ≡ getD secondStrip n 0) × (le32 t′ (160 + n * 4) ≡ getD sixthStrip n 0))
+  pub garage-short : {t t′ : List ℕ} {a : Answer} → Scheduled garage t a t′ → length t < 9408 → (a ≡ answer 15 0) × (t′ ≡ t)
+  -- the moved one is not clear: refused 16, however long the buffer is
+  pub moved-schedule : {t t′ : List ℕ} {a : Answer} → Scheduled moved t a t′ → (a ≡ answer 16 0) × (t′ ≡ t)
   -- no bytes at all: not clear, refused 1
   pub nothing : clearOf [] ≡ answer 1 0

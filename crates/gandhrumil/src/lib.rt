@@ -9,6 +9,7 @@ ghost use Rattle.moments.specs.Opening.{Opened};
 ghost use Rattle.moments.specs.Changing.{Changed};
 ghost use Rattle.steel.specs.Query.{queryOf};
 ghost use Rattle.steel.specs.Steel.{steelOf};
+ghost use Rattle.steel.specs.Schedule.{Scheduled};
 use answers::Answer;
 use steel::query::Query;
 
@@ -70,4 +71,12 @@ pub extern "C" fn gandhrumil_steel(m: u64, b: u64, t: u64, d: u64, fc: u64, fy: 
         fc: fc,
         fy: fy,
     })
+}
+
+// The bar schedule: how many records it has, with 32 bytes for each in the buffer.
+#[no_mangle]
+pub extern "C" fn gandhrumil_schedule(floor: &[u8], schedule: &mut [u8]) -> Answer
+    ensures { λ r. ⌜ Scheduled (now (floor .entry)) (now (schedule .entry)) r (now (schedule .exit)) ⌝ }
+{
+    steel::schedule::schedule(floor, schedule)
 }

@@ -6,3 +6,10 @@ pub mod Within
 pub mod Climb
 pub mod Bounds
 pub mod Answers
+pub mod Reinforced
+pub mod Laid
+pub mod Scheduled
+pub mod Strips
+pub mod Meaning
+pub mod Inside
+pub mod Lacking

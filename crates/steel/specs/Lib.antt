@@ -3,4 +3,8 @@ pub mod Area
 pub mod Answered
 pub mod Search
 pub mod Steel
+pub mod Strips
+pub mod Barred
+pub mod Schedule
+pub mod Meaning
 pub mod Asked

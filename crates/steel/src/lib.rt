@@ -1,13 +1,15 @@
-// Slab steel: the least whole area of a query.
-mod limits;
+// Slab steel: the least whole area of a query; and the bar schedule of a floor (02, Five).
+mod areas;
 pub mod query;
+pub mod schedule;
 mod search;
+mod strip;
 
 ghost use mathlib.Core.Path.{_≡_};
 ghost use Rattle.steel.specs.Steel.{steelOf};
 use answers::Answer;
 use answers::refused_query;
-use limits::limits_of;
+use areas::limits_of;
 use query::Query;
 use query::in_range;
 use search::least_within;

@@ -22,7 +22,7 @@ at-span : (n l s : ℕ) → s < n → (l * n + s) % n ≡ s
 at-span n l s h = mul-add-mod-self-right l n s ∙ mod-eq-of-lt h
 
 -- a number below a product has a positive factor, so its quotient and its remainder are a place
-some-span : (n m k : ℕ) → k < m * n → 0 < n
+pub some-span : (n m k : ℕ) → k < m * n → 0 < n
 some-span n m k h =
     elim (decLt 0 n) [
       | yes l ↦ l

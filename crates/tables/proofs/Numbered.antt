@@ -12,7 +12,7 @@ use Rattle.plan.specs.declared.read.Bays.{Bays}
 use Rattle.plan.specs.Plan.{bays, lastLine, baysOf}
 use Rattle.plan.specs.Asked.{Sized}
 use Rattle.plan.proofs.Reading.{bays-most}
-use Rattle.tables.specs.Places.{Place, InsideOf, Inside, recordsOf, recordCount, firstIn, lineFirstIn, firstOf, lineFirst, numberOf, placeOf}
+use Rattle.tables.specs.Places.{Place, InsideOf, Inside, recordsOf, recordCount, firstIn, lineFirstIn, firstOf, lineFirst, numberOf, placeOf, placeAmong}
 use Rattle.tables.specs.Asked.{Bayed}
 use Rattle.tables.proofs.InLines.{line-ends, below-count, its-place, one-place, covered}
 
@@ -47,6 +47,10 @@ module _ {f : List ℕ} {b : Bays} (h : Sized f b) where
   pub counted : {n : ℕ} → n ≡ recordsOf b → n ≡ recordCount f
   unfolding recordCount
   counted e = e ∙ rw (h .is)
+
+  pub found-at : (k : ℕ) → placeAmong b k ≡ placeOf f k
+  unfolding placeOf
+  found-at k = rw (h .is)
 
   pub line-starts : {n : ℕ} (d : Way) (l : ℕ) → n ≡ lineFirstIn b d l → n ≡ lineFirst f d l
   line-starts d l e = e ∙ rw (h .is) (line-first-is f d l)

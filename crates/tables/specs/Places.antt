@@ -9,6 +9,7 @@ use Rattle.plan.specs.declared.ways.Way.the-variants.{X, Y}
 use Rattle.plan.specs.declared.read.Bays.{Bays}
 use Rattle.plan.specs.Ways.{pick}
 use Rattle.plan.specs.Plan.{bays, lastLine, baysOf}
+use Rattle.tables.specs.declared.places.Found.{Found}
 
 -- a span: of line `line` along `way`
 pub record Place : Type 0 where
@@ -74,3 +75,10 @@ numberOf f p = rankIn (bays f) (lastLine f) p
 
 unfoldable pub placeOf : List ℕ → ℕ → Place
 placeOf f k = placeIn (bays f) (lastLine f) k
+
+-- the same by the floor's bays, as a program hands it on
+abbrev pub found : Place → Found
+found p = record { way = p .way; line = p .line; span = p .span }
+
+abbrev pub placeAmong : Bays → ℕ → Place
+placeAmong b k = cond (ltb k (firstIn b Y)) (inWay X (b .x) k) (inWay Y (b .y) (k - firstIn b Y))

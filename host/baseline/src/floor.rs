@@ -3,6 +3,7 @@
 pub const MOST_BAYS: usize = 12;
 pub const MOST_LINES: usize = MOST_BAYS + 1;
 pub const MOST_COLUMNS: usize = MOST_LINES * MOST_LINES;
+pub const MOST_RECORDS: usize = 2 * MOST_LINES * MOST_BAYS;
 
 /// Directions index arrays of two.
 pub const X: usize = 0;

@@ -117,8 +117,7 @@ impl Frames<'_> {
                 l2,
                 alpha,
                 twice_width,
-                // "a quarter of min(l1, span on that side); past an outer line, half the column"
-                four_strips: l1.min(across.low) + l1.min(across.high) + 2 * across.column,
+                four_strips: across.four_strips(l1),
                 percents,
                 ends,
             }

@@ -1,7 +1,7 @@
-//! The rules of 01, requests One to Four of 02 and the list of broken places beyond them, in plain Rust written for
+//! The rules of 01, requests One to Five of 02 and the list of broken places beyond them, in plain Rust written for
 //! speed: what the proved library is timed against.
 //!
-//! The six calls are the library's. Each reads the floor's bytes once into fixed arrays and works from
+//! The seven calls are the library's. Each reads the floor's bytes once into fixed arrays and works from
 //! these; nothing is kept between calls. Every number of 01 fits 64 bits.
 
 mod change;
@@ -13,6 +13,7 @@ mod governing;
 mod judge;
 mod lines;
 mod places;
+mod schedule;
 mod steel;
 mod strips;
 mod thickness;
@@ -150,4 +151,27 @@ fn listed(bytes: &[u8], places: &mut [u32]) -> Result<u32, u32> {
     let lent = lent.get_mut(..count).ok_or(25u32)?;
     lent.copy_from_slice(&apart[..count]);
     Ok(count as u32)
+}
+
+/// The bar schedule, eight numbers for each strip of each section: record, section, strip, width, moment, area, bar
+/// diameter, spacing.
+pub fn schedule(floor: &[u8], schedule: &mut [u8]) -> Answer {
+    Answer::of(scheduled(floor, schedule), 0)
+}
+
+/// "Order: 1 to 7, 16, 15, 17. A refused schedule writes nothing." (02, Five)
+fn scheduled(bytes: &[u8], schedule: &mut [u8]) -> Result<u32, u32> {
+    let floor = file::read(bytes)?;
+    let layout = judge::judge(&floor)?;
+    let stiffness = Stiffness::of(&floor);
+    // 16: "verdict not 0"
+    if verdict(&floor, layout, &stiffness) != 0 {
+        return Err(16);
+    }
+    // 15: "schedule buffer too short"
+    let (lent, _) = schedule.as_chunks_mut();
+    let lent = lent.get_mut(..schedule::count(&floor)).ok_or(15u32)?;
+    let entries = schedule::entries(&floor, layout, &stiffness).ok_or(17u32)?;
+    schedule::write(&entries, lent);
+    Ok(entries.len() as u32)
 }

@@ -24,7 +24,7 @@ impl Across {
         }
     }
 
-    fn is_outer(self) -> bool {
+    pub fn is_outer(self) -> bool {
         self.column > 0
     }
 
@@ -32,6 +32,12 @@ impl Across {
     /// across"
     pub fn twice_width(self) -> u32 {
         self.low + self.high + self.column
+    }
+
+    /// Four times wc: "on each side of the line, a quarter of min(l1, span on that side); past an outer line, half the
+    /// column"
+    pub fn four_strips(self, l1: u32) -> u32 {
+        l1.min(self.low) + l1.min(self.high) + 2 * self.column
     }
 
     /// "l2 is the mean of adjoining spans inside and the whole panel span on an outer line."

@@ -37,15 +37,41 @@ fn area(query: Query) -> Result<u32, u32> {
     let Query { m, b, t, d, fc, fy } = query;
     // "d = 0 stands for t − 26."
     let depth = if d == 0 { t - 26 } else { d };
-    let block = 17 * fc * b * depth;
-    let least = match fy {
-        280 => (2 * b * t).div_ceil(1_000),
-        _ => (756 * b * t).div_ceil(1_000 * fy),
-    };
-    // "224000·As·fy ≤ 51·K·fc·b·d"
-    let most = 3 * k(fc) * block / (224_000 * fy);
-    let wanted = 1_700 * fc * b * m;
-    carrying(block, fy, wanted, least..=most).ok_or(12)
+    let section = Section::of(b, t, depth, fc, fy);
+    section.area(m).ok_or(12)
+}
+
+/// What bounds the areas of a width of slab, whatever its moment.
+pub struct Section {
+    fy: u64,
+    block: u64,
+    least: u64,
+    most: u64,
+    per_moment: u64,
+}
+
+impl Section {
+    #[inline]
+    pub fn of(b: u64, t: u64, depth: u64, fc: u64, fy: u64) -> Section {
+        let block = 17 * fc * b * depth;
+        Section {
+            fy,
+            block,
+            least: match fy {
+                280 => (2 * b * t).div_ceil(1_000),
+                _ => (756 * b * t).div_ceil(1_000 * fy),
+            },
+            // "224000·As·fy ≤ 51·K·fc·b·d"
+            most: 3 * k(fc) * block / (224_000 * fy),
+            per_moment: 1_700 * fc * b,
+        }
+    }
+
+    #[inline]
+    pub fn area(&self, m: u64) -> Option<u32> {
+        let wanted = self.per_moment * m;
+        carrying(self.block, self.fy, wanted, self.least..=self.most)
+    }
 }
 
 /// "K = 1190 up to fc 28, 910 from 56, between them 1470 − 10·fc"

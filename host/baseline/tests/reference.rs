@@ -9,8 +9,10 @@ use cases::runs::{self, play, Played, Run};
 use reference::floor_file::RECORD_BYTES;
 use reference::panel;
 use reference::places::{places, ALWAYS_SUFFICE, NUMBERS};
+use reference::schedule;
 use reference::steel;
 use reference::verdict;
+use std::collections::BTreeMap;
 
 fn answer(given: Answer) -> (u128, u128) {
     (given.refusal.into(), given.value.into())
@@ -44,9 +46,37 @@ fn hold_places_in_every_slice(description: &str, floor: &[u8]) {
     }
 }
 
+/// The answer, the schedule and what lies past it, in a buffer of so many bytes. Answers the refusal and how many
+/// records there are.
+fn hold_schedule(description: &str, floor: &[u8], length: usize) -> (u128, u128) {
+    let (mut given, mut right) = (vec![u8::MAX; length], vec![u8::MAX; length]);
+    let (refused, count) = schedule::schedule(floor, &mut right);
+    assert_eq!(
+        answer(baseline::schedule(floor, &mut given)),
+        (refused, count),
+        "{description}, {length} bytes"
+    );
+    assert!(given == right, "{description}, {length} bytes");
+    (refused, count)
+}
+
+/// Enough, a byte too few, more than enough, none. Answers the refusal where there are enough.
+fn hold_schedule_in_every_buffer(description: &str, floor: &[u8]) -> u128 {
+    let (refused, _) = hold_schedule(description, floor, schedule::ALWAYS_SUFFICE);
+    let asked = match refused {
+        1..=7 => 0,
+        _ => schedule::length(floor),
+    };
+    for length in [asked, asked.saturating_sub(1), asked + 1, asked + 40, 0] {
+        hold_schedule(description, floor, length);
+    }
+    refused
+}
+
 fn hold_judged(description: &str, floor: &[u8]) {
     hold_clear(description, floor);
     hold_places(description, floor, ALWAYS_SUFFICE);
+    hold_schedule(description, floor, schedule::ALWAYS_SUFFICE);
 }
 
 /// Every floor on the way is asked whether it is clear, and for its places.
@@ -103,6 +133,7 @@ fn every_floor() {
         hold_run(&opening(&floor.description, &floor.bytes));
         hold_panels(&floor.description, &floor.bytes);
         hold_places_in_every_slice(&floor.description, &floor.bytes);
+        hold_schedule_in_every_buffer(&floor.description, &floor.bytes);
     }
 }
 
@@ -170,6 +201,27 @@ fn floors_drawn_and_altered() {
             ..opening(&format!("drawn {number}"), &floor)
         });
     }
+}
+
+/// Clear floors that are drawn: some have a schedule, some are refused 17.
+#[test]
+fn schedules_drawn() {
+    let mut draw = Draw::starting_at(33);
+    let mut answers = BTreeMap::new();
+    for number in 0..1_000 {
+        let (layout, _) = LAYOUTS[number % 3];
+        let wanted = Wanted {
+            nx: draw.between(3, 6),
+            ny: draw.between(3, 6),
+            layout,
+            sides: any_sides(&mut draw),
+        };
+        let floor = drawn::clear(&mut draw, wanted).bytes();
+        let refused = hold_schedule_in_every_buffer(&format!("drawn {number}"), &floor);
+        *answers.entry(refused).or_insert(0) += 1;
+    }
+    assert!(answers.keys().eq(&[0, 17]), "{answers:?}");
+    assert!(answers.values().all(|&floors| floors > 200), "{answers:?}");
 }
 
 #[test]

@@ -2,7 +2,7 @@
 
 use crate::operations::{Operation, Work};
 use crate::product::{Answer, Baseline, Ours, Product};
-use reference::places::ALWAYS_SUFFICE;
+use reference::{places, schedule};
 use std::hint::black_box;
 use std::time::{Duration, Instant};
 
@@ -15,13 +15,14 @@ const BATCH: Duration = Duration::from_micros(200);
 const TABLE: usize = 4_992;
 const GOVERNING: usize = 1_690;
 
-/// The floor, the table and the slices that one product is lent.
+/// The floor, the table, the slices and the buffer that one product is lent.
 #[derive(Clone, PartialEq, Eq, Debug)]
 struct Lent {
     floor: Vec<u8>,
     table: Vec<u32>,
     governing: Vec<u32>,
     places: Vec<u32>,
+    schedule: Vec<u8>,
 }
 
 /// Makes two calls, so that an operation by turns is back where it was.
@@ -31,6 +32,7 @@ fn twice<P: Product>(lent: &mut Lent, work: &Work) -> [Answer; 2] {
         table,
         governing,
         places,
+        schedule,
     } = lent;
     let mut call = |turn: usize| match work {
         Work::Open => P::open(black_box(floor), black_box(table), black_box(governing)),
@@ -56,6 +58,9 @@ fn twice<P: Product>(lent: &mut Lent, work: &Work) -> [Answer; 2] {
         Work::Panel(x, y) => P::panel(black_box(floor), black_box(*x), black_box(*y)),
         Work::Clear => P::clear(black_box(floor)),
         Work::Places(length) => P::places(black_box(floor), black_box(&mut places[..*length])),
+        Work::Schedule(length) => {
+            P::schedule(black_box(floor), black_box(&mut schedule[..*length]))
+        }
         Work::Steel(query) => P::steel(black_box(*query)),
     };
     [call(0), call(1)]
@@ -87,7 +92,8 @@ pub struct Times {
     pub baseline: f64,
 }
 
-/// Both give the answers, the floor, the table and the slices that the other gives, and the answer that the operation names.
+/// Both give the answers, the floor, the table, the slices and the schedule that the other gives, and the answer that
+/// the operation names.
 fn same(operation: &Operation, lent: &Lent) {
     let (mut ours, mut baseline) = (lent.clone(), lent.clone());
     for _ in 0..2 {
@@ -101,7 +107,7 @@ fn same(operation: &Operation, lent: &Lent) {
         );
         assert!(
             ours == baseline,
-            "{}: floors, tables or slices differ",
+            "{}: floors, tables, slices or schedules differ",
             operation.name
         );
     }
@@ -112,7 +118,8 @@ pub fn time(operation: &Operation) -> Times {
         floor: operation.floor.clone(),
         table: vec![u32::MAX; TABLE],
         governing: vec![u32::MAX; GOVERNING],
-        places: vec![u32::MAX; ALWAYS_SUFFICE],
+        places: vec![u32::MAX; places::ALWAYS_SUFFICE],
+        schedule: vec![u8::MAX; schedule::ALWAYS_SUFFICE],
     };
     same(operation, &lent);
     let (mut ours, mut baseline) = (lent.clone(), lent);

@@ -5,6 +5,7 @@ mod clear;
 mod openings;
 mod places;
 mod queries;
+mod schedules;
 
 pub use queries::steel;
 
@@ -26,6 +27,8 @@ pub enum Work {
     Clear,
     /// On a slice of so many numbers.
     Places(usize),
+    /// On a buffer of so many bytes.
+    Schedule(usize),
     Steel(Query),
 }
 
@@ -48,6 +51,7 @@ pub fn at(size: Size) -> Vec<Operation> {
         queries::panels(size),
         clear::at(size),
         places::at(size),
+        schedules::at(size),
     ]
     .into_iter()
     .flatten()

@@ -1,4 +1,4 @@
-//! The two products that are timed, behind the same six calls.
+//! The two products that are timed, behind the same seven calls.
 
 /// Refusal and value.
 pub type Answer = (u32, u32);
@@ -12,6 +12,7 @@ pub trait Product {
     fn panel(floor: &[u8], x: u64, y: u64) -> Answer;
     fn clear(floor: &[u8]) -> Answer;
     fn places(floor: &[u8], places: &mut [u32]) -> Answer;
+    fn schedule(floor: &[u8], schedule: &mut [u8]) -> Answer;
     fn steel(query: Query) -> Answer;
 }
 
@@ -47,6 +48,11 @@ macro_rules! product {
 
             fn places(floor: &[u8], places: &mut [u32]) -> Answer {
                 let answer = $library::places(floor, places);
+                (answer.refusal, answer.value)
+            }
+
+            fn schedule(floor: &[u8], schedule: &mut [u8]) -> Answer {
+                let answer = $library::schedule(floor, schedule);
                 (answer.refusal, answer.value)
             }
 

@@ -8,6 +8,7 @@ mod edges;
 pub mod long;
 pub mod refused;
 pub mod scattered;
+pub mod schedules;
 pub mod single;
 pub mod small;
 mod spoilt;
@@ -54,6 +55,7 @@ pub fn all() -> Vec<Described> {
         tied::floors(),
         all_broken::floors(),
         scattered::floors(),
+        schedules::floors(),
         refused::floors(),
     ]
     .into_iter()

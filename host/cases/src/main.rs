@@ -1,5 +1,7 @@
+use cases::floors::schedules;
 use cases::garage::garage;
 use cases::{figures, morning, refusals};
+use reference::schedule::{schedule, ALWAYS_SUFFICE};
 use reference::sheet::{line, sheet};
 use reference::steel::{answer, Query};
 use reference::verdict::judged;
@@ -9,8 +11,8 @@ use std::process::ExitCode;
 use std::{env, fs, io};
 
 const USAGE: &str = "usage:
-  cases list          print number, refusal and description of each floor file and each change that
-                      is described one by one
+  cases list          print number, refusal and description of each floor file, each change and each
+                      floor to schedule bars of that is described one by one
   cases judge         read a floor from standard input; print its refusal and verdict and, where it
                       is not refused, a line per y bay of its panels' least thicknesses
   cases sheet         read a floor from standard input; print what the printing program has to
@@ -24,9 +26,14 @@ const USAGE: &str = "usage:
                       and after each its refusal and verdict, the table and the governing slice";
 
 fn print_list() -> io::Result<()> {
+    let of_cases = refusals::all().into_iter();
+    let of_cases = of_cases.map(|case| (case.refusal(), case.description));
+    let of_schedules = schedules::floors().into_iter().map(|floor| {
+        let (refused, _) = schedule(&floor.bytes, &mut [0; ALWAYS_SUFFICE]);
+        (refused, floor.description)
+    });
     let mut stdout = io::stdout().lock();
-    for (number, case) in (1..).zip(refusals::all()) {
-        let (refusal, description) = (case.refusal(), case.description);
+    for (number, (refusal, description)) in (1..).zip(of_cases.chain(of_schedules)) {
         writeln!(stdout, "{number}\t{refusal}\t{description}")?;
     }
     Ok(())

@@ -1,6 +1,7 @@
 //! Floors, each opened on a lent table and a governing slice of any numbers, asked whether it is clear and where it is
-//! broken, and asked for every panel.
+//! broken, for its bar schedule, and for every panel.
 
+mod bars;
 mod beams;
 mod damage;
 mod drawn;
@@ -17,6 +18,7 @@ use crate::clear;
 use crate::panels;
 use crate::places;
 use crate::same::{hex, same_answer};
+use crate::schedules;
 use crate::tally::{Counts, Opened, Tally};
 use cases::draw::Draw;
 use cases::floors::all_broken::all_broken;
@@ -32,8 +34,8 @@ use reference::{governing, span, table};
 
 /// Floors in a case: as drawn, at the edge of a limit and past it, at an edge of beams and past it, with an outer
 /// line just strong enough and just too weak, with a tie, damaged, clear but for one place, broken here and there,
-/// broken everywhere.
-pub const FLOORS: u64 = 4 + 2 + 2 + 2 + 1 + 2 + 2 + 1 + 1;
+/// broken everywhere, just barred and just not by loads, and by a beam.
+pub const FLOORS: u64 = 4 + 2 + 2 + 2 + 1 + 2 + 2 + 1 + 1 + 2 + 2;
 
 pub fn case(case: &mut Case) -> Result<(), String> {
     let drawn: [_; 4] = std::array::from_fn(|_| floor(&mut case.draw));
@@ -61,7 +63,16 @@ pub fn case(case: &mut Case) -> Result<(), String> {
     }
     let [here_and_there, everywhere] = broken_floors(&mut case.draw);
     broken(case, "broken here and there", &here_and_there.bytes())?;
-    broken(case, "broken everywhere", &everywhere.bytes())
+    broken(case, "broken everywhere", &everywhere.bytes())?;
+    for (words, edge) in [
+        ("loads", bars::by_load(&mut case.draw)),
+        ("a beam", bars::by_beam(&mut case.draw)),
+    ] {
+        let (at, past) = edge;
+        for_bars(case, &format!("just barred by {words}"), &at.bytes())?;
+        for_bars(case, &format!("just not barred by {words}"), &past.bytes())?;
+    }
+    Ok(())
 }
 
 fn broken_floors(draw: &mut Draw) -> [Floor; 2] {
@@ -124,6 +135,13 @@ fn broken(case: &mut Case, words: &str, floor: &[u8]) -> Result<(), String> {
     Ok(())
 }
 
+/// Counted apart: most are clear.
+fn for_bars(case: &mut Case, words: &str, floor: &[u8]) -> Result<(), String> {
+    let opened = compare(case, words, floor)?;
+    case.tally.for_bars.add(opened);
+    Ok(())
+}
+
 /// Counted apart from the floors that somebody drew.
 pub fn spoilt(case: &mut Case, words: &str, floor: &[u8]) -> Result<(), String> {
     let opened = compare(case, words, floor)?;
@@ -145,6 +163,7 @@ fn compare(case: &mut Case, words: &str, floor: &[u8]) -> Result<Opened, String>
         .map_err(|words| format!("opening: {words}"))
         .and_then(|()| clear::compare(case, floor, &lent))
         .and_then(|()| places::compare(case, floor, &lent))
+        .and_then(|()| schedules::compare(case, floor, &lent))
         .and_then(|()| panels::compare(case, floor, &lent))
         .map_err(|error| format!("floor {words}: {error}\n{}", hex(floor)))?;
     case.tally.floor_addresses.add(lent.address());

@@ -9,8 +9,10 @@ pub type Open = fn(&[u8], &mut [u32], &mut [u32]) -> Answer;
 pub type Change = fn(&mut [u8], &mut [u32], &mut [u32], &[u8]) -> Answer;
 /// On a floor and a slice for its places.
 pub type Places = fn(&[u8], &mut [u32]) -> Answer;
+/// On a floor and a buffer for its schedule.
+pub type Schedule = fn(&[u8], &mut [u8]) -> Answer;
 
-/// The six calls, which a test may put wrong ones in place of.
+/// The seven calls, which a test may put wrong ones in place of.
 #[derive(Clone, Copy)]
 pub struct Calls {
     pub open: Open,
@@ -19,6 +21,7 @@ pub struct Calls {
     pub clear: fn(&[u8]) -> Answer,
     pub places: Places,
     pub steel: fn(Query) -> Answer,
+    pub schedule: Schedule,
 }
 
 pub const LIBRARY: Calls = Calls {
@@ -28,6 +31,7 @@ pub const LIBRARY: Calls = Calls {
     clear: gandhrumil::clear,
     places: gandhrumil::places,
     steel: gandhrumil::steel,
+    schedule: gandhrumil::schedule,
 };
 
 #[derive(Clone, Copy)]

@@ -15,6 +15,7 @@ pub mod places;
 pub mod report;
 pub mod runs;
 pub mod same;
+pub mod schedules;
 pub mod steel;
 pub mod tally;
 pub mod variety;

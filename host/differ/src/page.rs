@@ -37,6 +37,7 @@ pub const fn calls<S: Script>() -> Calls {
         clear: clear::<S>,
         places: places::<S>,
         steel: steel::<S>,
+        schedule: schedule::<S>,
     }
 }
 
@@ -83,7 +84,7 @@ fn change<S: Script>(
         let asked = Asked {
             slices: [table, governing],
             floor,
-            change,
+            bytes: change,
             ..Asked::new(Call::Change)
         };
         let mut given = node.ask(&asked);
@@ -141,4 +142,18 @@ fn steel<S: Script>(query: Query) -> Answer {
         ..Asked::new(Call::Steel)
     };
     in_node::<S>(|node| node.ask(&asked).answer)
+}
+
+fn schedule<S: Script>(floor: &[u8], schedule: &mut [u8]) -> Answer {
+    in_node::<S>(|node| {
+        let asked = Asked {
+            floor,
+            bytes: schedule,
+            ..Asked::new(Call::Schedule)
+        };
+        let mut given = node.ask(&asked);
+        given.unwritten(floor);
+        given.bytes(schedule);
+        given.answer
+    })
 }

@@ -1,6 +1,7 @@
 //! The counts in words.
 
-use crate::tally::{Before, Counts, Listed, Opened, Said, Step, Tally};
+use crate::tally::{Before, Counts, Listed, Opened, Said, Scheduled, Step, Tally};
+use reference::schedule::Lack;
 use std::fmt::Display;
 
 /// 1234567 as 1,234,567.
@@ -53,11 +54,12 @@ fn opened(words: &str, counts: &Counts<Opened>) -> String {
 
 fn floors(tally: &Tally) -> String {
     format!(
-        "floors: {}\n{}{}{}{}  limits broken: {}\n  clear floors: {}; {} choices of sides\n  bays: {} pairs, 12 by 12 {} times\n  beams: {}\n",
+        "floors: {}\n{}{}{}{}{}  limits broken: {}\n  clear floors: {}; {} choices of sides\n  bays: {} pairs, 12 by 12 {} times\n  beams: {}\n",
         grouped(tally.floors()),
         opened("undamaged", &tally.undamaged),
         opened("clear but for one place", &tally.single),
         opened("broken here and there or everywhere", &tally.scattered),
+        opened("just barred or just not", &tally.for_bars),
         opened("damaged", &tally.damaged),
         listed(&tally.limits),
         listed(&tally.layouts),
@@ -125,6 +127,33 @@ fn places(tally: &Tally) -> String {
     )
 }
 
+fn schedules(tally: &Tally) -> String {
+    let told = &tally.schedules;
+    let refused = numbered(told, |told| match told {
+        Scheduled::Written => 0,
+        Scheduled::FirstUnbarred | Scheduled::LaterUnbarred => 17,
+        Scheduled::Refused(number) => *number,
+    });
+    let lacks = [
+        (Lack::Width, "width"),
+        (Lack::Area, "area"),
+        (Lack::Bar, "bar"),
+    ]
+    .map(|(lack, words)| format!("no {words}: {}", grouped(tally.lacks.of(&lack))));
+    format!(
+        "asked for schedules: {}, of them {} written, {} refused ({})\n  bars, in so many floors: {}\n  \
+         refused 17 by {}; {} times by the first record\n  lent to clear floors: {}\n",
+        grouped(told.total()),
+        grouped(told.of(&Scheduled::Written)),
+        grouped(refused.total()),
+        listed(&refused),
+        listed(&tally.bars),
+        lacks.join(", "),
+        grouped(told.of(&Scheduled::FirstUnbarred)),
+        listed(&tally.buffers),
+    )
+}
+
 fn changes(tally: &Tally) -> String {
     let steps = &tally.changes;
     let refused = numbered(steps, |step| match step {
@@ -163,6 +192,7 @@ pub fn report(tally: &Tally) -> String {
         floors(tally),
         clear(&tally.clear),
         places(tally),
+        schedules(tally),
         queries("panel queries", &tally.panels),
         changes(tally),
         queries("steel queries", &tally.steel),

@@ -33,7 +33,7 @@ pub fn case(case: &mut Case) -> Result<(), String> {
         }
         next_change(case, &mut held, &mut walk, !opens)?;
     }
-    held.panels(case)?;
+    held.panels_and_schedule(case)?;
     changes_after_damage(case, &held.floor)
 }
 
@@ -58,7 +58,7 @@ pub fn replay(case: &mut Case, run: &Run) -> Result<(), String> {
     for change in &run.changes {
         compare(case, &mut held, change)?;
     }
-    held.panels(case)
+    held.panels_and_schedule(case)
 }
 
 /// Now and then with an edge so near to 8000 that changes of its beam, or of the span beside it, make it weak and

@@ -1,5 +1,6 @@
 //! What was compared, by sorts.
 
+use reference::schedule::Lack;
 use std::collections::BTreeMap;
 use std::fmt;
 
@@ -84,7 +85,42 @@ pub enum Listed {
     Refused(u128),
 }
 
-/// The slice that is lent to a floor with places, by how many numbers these take.
+/// What a floor is told that is asked for its schedule.
+#[derive(Clone, Copy, Debug, PartialEq, Eq, PartialOrd, Ord)]
+pub enum Scheduled {
+    Written,
+    /// 17, by the first record of all.
+    FirstUnbarred,
+    /// 17, after records that could be written.
+    LaterUnbarred,
+    Refused(u128),
+}
+
+/// What is met among a schedule's bars.
+#[derive(Clone, Copy, Debug, PartialEq, Eq, PartialOrd, Ord)]
+pub enum BarSort {
+    /// A bar of this diameter.
+    Of(u128),
+    /// At 80.
+    Closest,
+    /// At 2t, or the multiple of 10 below it.
+    Widest,
+    /// Bar area times width is area times spacing.
+    Exact,
+}
+
+impl fmt::Display for BarSort {
+    fn fmt(&self, f: &mut fmt::Formatter) -> fmt::Result {
+        match self {
+            BarSort::Of(diameter) => write!(f, "{diameter} mm"),
+            BarSort::Closest => write!(f, "at 80"),
+            BarSort::Widest => write!(f, "at 2t"),
+            BarSort::Exact => write!(f, "just enough"),
+        }
+    }
+}
+
+/// What is lent for a floor's places, by how many numbers these take, or for its schedule, by its bytes.
 #[derive(Clone, Copy, Debug, PartialEq, Eq, PartialOrd, Ord)]
 pub enum Slice {
     Exact,
@@ -99,7 +135,7 @@ impl fmt::Display for Slice {
     fn fmt(&self, f: &mut fmt::Formatter) -> fmt::Result {
         f.write_str(match self {
             Slice::Exact => "exactly enough",
-            Slice::OneShort => "a number short",
+            Slice::OneShort => "one short",
             Slice::Shorter => "shorter",
             Slice::Empty => "empty",
             Slice::Longer => "longer",
@@ -176,6 +212,8 @@ pub struct Tally {
     pub single: Counts<Opened>,
     /// And those that are broken here and there or everywhere.
     pub scattered: Counts<Opened>,
+    /// And those that can just be barred or just not.
+    pub for_bars: Counts<Opened>,
     pub damaged: Counts<Opened>,
     /// Of the floors that are not refused: the limits that they break, and bays.
     pub limits: Counts<u128>,
@@ -190,6 +228,12 @@ pub struct Tally {
     /// Of the broken floors: what they were lent for their places, and the limits with one place or with several.
     pub slices: Counts<Slice>,
     pub places_of_limits: Counts<(u128, bool)>,
+    pub schedules: Counts<Scheduled>,
+    /// Of the clear floors: what they were lent for their schedules, what bars they have, once for each floor, or what the first strip lacks that has
+    /// none.
+    pub buffers: Counts<Slice>,
+    pub bars: Counts<BarSort>,
+    pub lacks: Counts<Lack>,
     /// Panel queries, by their refusal or 0.
     pub panels: Counts<u128>,
     pub changes: Counts<Step>,
@@ -205,6 +249,7 @@ pub struct Tally {
     pub governing_addresses: Counts<usize>,
     pub places_addresses: Counts<usize>,
     pub change_addresses: Counts<usize>,
+    pub schedule_addresses: Counts<usize>,
 }
 
 impl Tally {
@@ -212,6 +257,7 @@ impl Tally {
         self.undamaged.merge(other.undamaged);
         self.single.merge(other.single);
         self.scattered.merge(other.scattered);
+        self.for_bars.merge(other.for_bars);
         self.damaged.merge(other.damaged);
         self.limits.merge(other.limits);
         self.bays.merge(other.bays);
@@ -222,6 +268,10 @@ impl Tally {
         self.places.merge(other.places);
         self.slices.merge(other.slices);
         self.places_of_limits.merge(other.places_of_limits);
+        self.schedules.merge(other.schedules);
+        self.buffers.merge(other.buffers);
+        self.bars.merge(other.bars);
+        self.lacks.merge(other.lacks);
         self.panels.merge(other.panels);
         self.changes.merge(other.changes);
         self.kept_clear.merge(other.kept_clear);
@@ -232,10 +282,11 @@ impl Tally {
         self.governing_addresses.merge(other.governing_addresses);
         self.places_addresses.merge(other.places_addresses);
         self.change_addresses.merge(other.change_addresses);
+        self.schedule_addresses.merge(other.schedule_addresses);
     }
 
     pub fn floors(&self) -> u64 {
         let drawn = self.undamaged.total() + self.single.total() + self.scattered.total();
-        drawn + self.damaged.total()
+        drawn + self.for_bars.total() + self.damaged.total()
     }
 }

@@ -1,7 +1,10 @@
 //! What a comparison should have met and has not: a generator that decays is noticed.
 
-use crate::tally::{BeamSort, Before, Counts, Listed, Opened, Said, Slice, Step, Tally};
+use crate::tally::{
+    BarSort, BeamSort, Before, Counts, Listed, Opened, Said, Scheduled, Slice, Step, Tally,
+};
 use cases::runs::changes::KINDS;
+use reference::schedule::Lack;
 use std::collections::BTreeSet;
 
 /// Each that is not there, in words.
@@ -105,14 +108,56 @@ fn missing_of_places(tally: &Tally) -> Vec<String> {
     .concat()
 }
 
-pub fn floors(tally: &Tally) -> Vec<String> {
-    let refused = |number| Opened::Refused(number);
-    let clear = tally.undamaged.of(&Opened::Clear);
+fn missing_of_schedules(tally: &Tally) -> Vec<String> {
+    let refused = (1..=7).chain([15, 16]).map(Scheduled::Refused);
+    let told = [
+        Scheduled::Written,
+        Scheduled::FirstUnbarred,
+        Scheduled::LaterUnbarred,
+    ];
+    let bars = [10, 12, 16].map(BarSort::Of).into_iter();
+    let bars = bars.chain([BarSort::Closest, BarSort::Widest, BarSort::Exact]);
+    let lacks = [Lack::Width, Lack::Area, Lack::Bar];
+    [
+        missing(&tally.schedules, told.into_iter().chain(refused), |told| {
+            format!("a floor asked for its schedule: {told:?}")
+        }),
+        missing(&tally.buffers, SLICES, |slice| {
+            format!("a buffer for a schedule: {slice}")
+        }),
+        missing(&tally.bars, bars, |bars| format!("bars: {bars}")),
+        missing(&tally.lacks, lacks, |lack| {
+            format!("a strip without its {lack:?}")
+        }),
+    ]
+    .concat()
+}
+
+fn missing_addresses(tally: &Tally) -> Vec<String> {
     let number_places = [
         (&tally.table_addresses, "a table at each of 4 addresses"),
         (&tally.governing_addresses, "a slice at each of 4 addresses"),
         (&tally.places_addresses, "places at each of 4 addresses"),
     ];
+    [
+        unless(
+            tally.floor_addresses.kinds() == 16,
+            "a floor at each of 16 addresses",
+        ),
+        unless(
+            tally.schedule_addresses.kinds() == 16,
+            "a schedule at each of 16 addresses",
+        ),
+        number_places
+            .map(|(places, words)| unless(places.kinds() == 4, words))
+            .concat(),
+    ]
+    .concat()
+}
+
+pub fn floors(tally: &Tally) -> Vec<String> {
+    let refused = |number| Opened::Refused(number);
+    let clear = tally.undamaged.of(&Opened::Clear);
     [
         unless(
             3 * clear >= 2 * tally.undamaged.total(),
@@ -126,6 +171,7 @@ pub fn floors(tally: &Tally) -> Vec<String> {
         }),
         missing_of_clear(tally),
         missing_of_places(tally),
+        missing_of_schedules(tally),
         missing(&tally.panels, [0, 1, 2, 3, 4, 5, 6, 7, 10], |number| {
             format!("a panel query: refusal {number}")
         }),
@@ -133,13 +179,7 @@ pub fn floors(tally: &Tally) -> Vec<String> {
         unless(tally.sides.kinds() == SIDES, "some choice of sides"),
         missing_bays(tally),
         rare_beams(tally),
-        unless(
-            tally.floor_addresses.kinds() == 16,
-            "a floor at each of 16 addresses",
-        ),
-        number_places
-            .map(|(places, words)| unless(places.kinds() == 4, words))
-            .concat(),
+        missing_addresses(tally),
     ]
     .concat()
 }

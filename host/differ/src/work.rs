@@ -21,7 +21,7 @@ pub struct Amount {
 
 /// What cargo test compares.
 pub const SHORT: Amount = Amount {
-    floors: 4_000,
+    floors: 5_000,
     flipped: 12,
     changes: 16_000,
     queries: 40_000,

@@ -47,6 +47,7 @@ fn floors_and_inputs_longer_than_any_floor(calls: Calls) {
     assert_eq!(tally.floors(), described.len() as u64);
     assert_eq!(tally.clear.total(), described.len() as u64);
     assert_eq!(tally.places.total(), described.len() as u64);
+    assert_eq!(tally.schedules.total(), described.len() as u64);
 }
 
 /// Each floor file is opened, with room enough for any table and slice, then changed where a change comes with it.
@@ -74,6 +75,7 @@ fn cases_of_every_refusal(calls: Calls) {
     assert_eq!(tally.changes.total(), changes.count() as u64);
     assert!(tally.panels.total() > described.len() as u64);
     assert!(tally.clear.total() >= described.len() as u64);
+    assert_eq!(tally.schedules.total(), described.len() as u64);
     assert_eq!(tally.places.total(), tally.clear.total());
 }
 
@@ -83,6 +85,7 @@ fn changes(calls: Calls) {
     let changes: usize = described.iter().map(|run| run.changes.len()).sum();
     assert_eq!(tally.changes.total(), changes as u64);
     assert!(tally.clear.total() > changes as u64);
+    assert_eq!(tally.schedules.total(), described.len() as u64);
     assert_eq!(tally.places.total(), tally.clear.total());
 }
 

@@ -55,6 +55,9 @@ wrong! {
     InTheTable: "in the table";
     InTheChangedFloor: "in the changed floor";
     InThePlaces: "in the places";
+    InTheSchedule: "in the schedule";
+    AfterTheSchedule: "after the schedule";
+    InTheScheduledFloor: "in the scheduled floor";
     ABitOfTheAnswer: "a bit of the answer";
     AByteTooFew: "a byte too few";
     OfAnotherFrame: "of another frame";
@@ -74,6 +77,7 @@ fn panics(calls: Calls) -> String {
     };
     let change = record(5, 1, [5_980, 0, 0]);
     let (mut table, mut governing, mut places) = ([0; 192], [0; 90], [0; 20]);
+    let mut schedule = [0; 6 * 12 * 32];
     let made = catch_unwind(AssertUnwindSafe(|| {
         (calls.open)(&floor, &mut table, &mut governing);
         (calls.clear)(&floor);
@@ -81,6 +85,7 @@ fn panics(calls: Calls) -> String {
         (calls.panel)(&floor, 0, 0);
         (calls.change)(&mut floor, &mut table, &mut governing, &change);
         (calls.steel)(query);
+        (calls.schedule)(&floor, &mut schedule);
     }));
     let panic = made.expect_err("a panic");
     *panic.downcast().expect("words")
@@ -100,7 +105,15 @@ fn what_is_written_beyond_what_is_lent() {
         ),
         (calls::<InItsConstants>(), "gandhrumil_steel writes at "),
         (calls::<DeepInTheStack>(), "gandhrumil_steel writes at "),
+        (
+            calls::<AfterTheSchedule>(),
+            "gandhrumil_schedule writes at ",
+        ),
         (calls::<InTheFloor>(), "writes to what it may only read: "),
+        (
+            calls::<InTheScheduledFloor>(),
+            "writes to what it may only read: ",
+        ),
         (calls::<InTheChange>(), "writes to what it may only read: "),
     ] {
         let panic = panics(calls);
@@ -162,6 +175,11 @@ fn wrong_answers() {
             "floors",
             calls::<InThePlaces>(),
             " numbers lent: slice: at 0 ",
+        ),
+        (
+            "floors",
+            calls::<InTheSchedule>(),
+            " bytes lent: schedule: at ",
         ),
         ("changes", calls::<InTheChangedFloor>(), ": floor: at "),
     ] {

@@ -59,6 +59,7 @@ fn without_addresses(tally: Tally) -> Tally {
         governing_addresses: Default::default(),
         places_addresses: Default::default(),
         change_addresses: Default::default(),
+        schedule_addresses: Default::default(),
         ..tally
     }
 }

@@ -40,5 +40,12 @@ extern "C" {
         places_len: usize,
     ) -> Answer;
 
+    pub fn gandhrumil_schedule(
+        floor: *const u8,
+        floor_len: usize,
+        schedule: *mut u8,
+        schedule_len: usize,
+    ) -> Answer;
+
     pub fn gandhrumil_steel(m: u64, b: u64, t: u64, d: u64, fc: u64, fy: u64) -> Answer;
 }

@@ -1,4 +1,4 @@
-//! The six calls of the static library (`include/gandhrumil.h`), as safe functions of slices.
+//! The seven calls of the static library (`include/gandhrumil.h`), as safe functions of slices.
 //!
 //! Every call takes any bytes, any lengths and any numbers. What each answers and writes is said in the header, and proved.
 
@@ -7,10 +7,13 @@ mod calls;
 pub use calls::Answer;
 
 /// `GANDHRUMIL_VERSION` of the header whose calls these are (docs/CHANGES.md).
-pub const VERSION: u32 = 6;
+pub const VERSION: u32 = 7;
 
 /// `GANDHRUMIL_PLACES_LEN`: numbers enough for the places of any floor.
 pub const PLACES_LEN: usize = 3_172;
+
+/// `GANDHRUMIL_SCHEDULE_LEN`: bytes enough for the schedule of any floor.
+pub const SCHEDULE_LEN: usize = 59_904;
 
 /// Opens a floor and fills its table, and the governing moments beside it.
 pub fn open(floor: &[u8], table: &mut [u32], governing: &mut [u32]) -> Answer {
@@ -65,6 +68,19 @@ pub fn places(floor: &[u8], places: &mut [u32]) -> Answer {
             floor.len(),
             places.as_mut_ptr(),
             places.len(),
+        )
+    }
+}
+
+/// The bar schedule of a clear floor: of each section and strip a record of 32 bytes.
+pub fn schedule(floor: &[u8], schedule: &mut [u8]) -> Answer {
+    // SAFETY: the two slices are lent for the call, with their own lengths, and cannot overlap.
+    unsafe {
+        calls::gandhrumil_schedule(
+            floor.as_ptr(),
+            floor.len(),
+            schedule.as_mut_ptr(),
+            schedule.len(),
         )
     }
 }

@@ -46,12 +46,12 @@ fn a_pointer_may_be_anything_where_its_length_is_0() {
 }
 
 #[test]
-fn the_six_calls_from_c() {
+fn the_seven_calls_from_c() {
     run("figures", C);
 }
 
 #[test]
-fn the_six_calls_from_cpp() {
+fn the_seven_calls_from_cpp() {
     run("figures", CPP);
 }
 
@@ -81,4 +81,10 @@ fn one_length_of_places() {
     assert_eq!(gandhrumil::PLACES_LEN, header as usize);
     let proved = first_number("crates/broken/src/lib.rt", "const SUFFICES: usize = ");
     assert_eq!(proved, header);
+}
+
+#[test]
+fn one_length_of_schedules() {
+    let header = first_number("include/gandhrumil.h", "#define GANDHRUMIL_SCHEDULE_LEN ");
+    assert_eq!(gandhrumil::SCHEDULE_LEN, header as usize);
 }

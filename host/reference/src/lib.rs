@@ -1,4 +1,4 @@
-//! The rules of 01, requests One to Four of 02, *Later changes to the base*, and the list of broken places beyond
+//! The rules of 01, requests One to Five of 02, *Later changes to the base*, and the list of broken places beyond
 //! them, written as plainly as they read.
 //!
 //! Speed and memory count for nothing here. Each rule stands under the sentence of 01 or 02 it follows,
@@ -19,6 +19,7 @@ pub mod opening;
 pub mod panel;
 pub mod places;
 pub mod refusals;
+pub mod schedule;
 pub mod sheet;
 pub mod span;
 pub mod steel;

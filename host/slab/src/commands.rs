@@ -6,6 +6,7 @@ pub mod check;
 pub mod clear;
 pub mod help;
 pub mod make;
+pub mod schedule;
 pub mod sheet;
 pub mod text;
 
@@ -47,13 +48,14 @@ pub struct Command {
     pub run: fn(&[OsString]) -> Ended,
 }
 
-pub const COMMANDS: [&Command; 7] = [
+pub const COMMANDS: [&Command; 8] = [
     &make::COMMAND,
     &text::COMMAND,
     &check::COMMAND,
     &clear::COMMAND,
     &change::COMMAND,
     &sheet::COMMAND,
+    &schedule::COMMAND,
     &help::COMMAND,
 ];
 

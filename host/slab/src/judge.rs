@@ -2,11 +2,14 @@
 
 mod held;
 mod moments;
+mod order;
 mod places;
+mod schedule;
 
 pub use held::Held;
 pub use moments::{Moments, Section, SpanMoments};
 pub use places::Place;
+pub use schedule::{Bars, Schedule, RECORD_BYTES};
 
 use floor::Floor;
 

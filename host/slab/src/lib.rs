@@ -1,6 +1,6 @@
 //! The command `slab`: a floor file from text and back, and what the proved library says of it, in words.
 //!
-//! Nothing is judged here. Refusals, verdicts, places, moments, yes or no and thicknesses are the library's answers; text and file are two
+//! Nothing is judged here. Refusals, verdicts, places, moments, bars, yes or no and thicknesses are the library's answers; text and file are two
 //! ways of writing the same numbers, in range or not.
 
 pub mod commands;

@@ -24,12 +24,12 @@ pub fn write(path: Option<&OsStr>, bytes: &[u8]) -> Result<(), String> {
     }
 }
 
-/// A fault where a floor file would go to a terminal.
-pub fn no_terminal(path: Option<&OsStr>) -> Result<(), String> {
+/// A fault where such a file, which the option names, would go to a terminal.
+pub fn no_terminal(path: Option<&OsStr>, such: &str, option: &str) -> Result<(), String> {
     if path.is_none_or(|path| path == "-") && io::stdout().is_terminal() {
-        return Err("a floor file is bytes and no sight for a terminal: \
-                    expected -o and a file's name, or a pipe"
-            .to_string());
+        return Err(format!(
+            "{such} is bytes and no sight for a terminal: expected {option} and a file's name, or a pipe"
+        ));
     }
     Ok(())
 }

@@ -1,16 +1,18 @@
-//! The fixer's sheet: what stands on it, once for each of its renderings.
+//! The fixer's sheet and the bar schedule: what stands on them, once for each rendering.
 
 pub mod date;
 mod escape;
 mod frames;
 pub mod html;
+pub mod schedule;
 pub mod text;
+pub mod unbarred;
 pub mod units;
 
-pub use frames::{Frame, Row, Span, Support};
+pub use frames::{frames, Found, Frame, Row, Span, Support};
 
-use crate::judge::Held;
-use crate::say::limits;
+use crate::judge::{Bars, Held, Moments, Schedule};
+use crate::say::{limits, refusal};
 use floor::Floor;
 
 pub struct Sheet {
@@ -22,6 +24,8 @@ pub struct Sheet {
 pub enum Content {
     Clear {
         facts: String,
+        /// Why there are no bars, where there are none.
+        unbarred: Option<String>,
         frames: Vec<Frame>,
     },
     /// The sentence of each broken limit. There is no figure.
@@ -43,13 +47,13 @@ pub const PARTS: [&str; 5] = [
 ];
 pub const SUPPORTS: &str = "larger moment of the two faces at each support";
 
+/// The strips that have bars, in the library's order.
+pub const BAR_HEADS: [&str; 2] = ["bars, column strip", "bars, middle strip"];
+
 impl Sheet {
     pub fn of(held: &Held, name: String, date: String) -> Sheet {
         let content = match held.moments() {
-            Some(moments) => Content::Clear {
-                facts: facts(&held.floor()),
-                frames: frames::frames(&held.floor(), &moments),
-            },
+            Some(moments) => clear(held, &moments),
             None => {
                 let broken = limits::broken(held.verdict());
                 Content::Broken(broken.map(limits::Limit::sentence).collect())
@@ -63,7 +67,29 @@ impl Sheet {
     }
 }
 
-fn facts(floor: &Floor) -> String {
+fn clear(held: &Held, moments: &Moments) -> Content {
+    let floor = held.floor();
+    let (schedule, unbarred) = match Schedule::of(held.file()) {
+        Ok(schedule) => (Some(schedule), None),
+        Err(number) => (None, Some(refusal::no_bars(number))),
+    };
+    Content::Clear {
+        facts: facts(&floor),
+        unbarred,
+        frames: frames(Found {
+            floor: &floor,
+            moments,
+            schedule: schedule.as_ref(),
+        }),
+    }
+}
+
+/// `10 @ 150`
+fn spaced(bars: &Bars) -> String {
+    format!("{} @ {}", bars.diameter, bars.spacing)
+}
+
+pub fn facts(floor: &Floor) -> String {
     let Floor {
         t,
         fc,
@@ -78,11 +104,18 @@ fn facts(floor: &Floor) -> String {
     )
 }
 
+const OF_BARS: &str =
+    " Bars: diameter @ spacing in mm; those of the column strip lie in its slab, beside the beam.";
+
 /// `beside` is what else stands with each moment.
-fn notes(beside: &str) -> String {
+fn notes(beside: &str, unbarred: &Option<String>) -> String {
+    let bars = match unbarred {
+        None => OF_BARS,
+        Some(_) => "",
+    };
     format!(
         "Moments in kN·m, rounded up to the next 0.01{beside}. Top and bottom say where in the slab the steel lies. \
          Lines, spans and supports count from 0; x lines run west to east, y lines south to north. \
-         Column strip: beam and slab together."
+         Column strip: beam and slab together.{bars}"
     )
 }

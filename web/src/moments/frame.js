@@ -1,14 +1,16 @@
-// One frame with all its numbers. It is read from the table of a clear floor and from nothing else.
+// One frame with all its numbers. It is read from the table of a clear floor and its schedule, and from nothing else.
 
+import { frameBars } from '../schedule.js';
 import { spanRecord, supportAt } from '../table.js';
 
 /** @typedef {import('../floor.js').Way} Way */
 /** @typedef {import('../judge.js').Judged} Judged */
+/** @typedef {import('../schedule.js').SpanBars} SpanBars */
 /** @typedef {import('../table.js').Section} Section */
 /** @typedef {import('../table.js').SpanRecord} SpanRecord */
 /**
- * The columns' size is that along the frame, in mm as the lengths are.
- * @typedef {{way: Way, line: number, lengths: number[], columns: number, spans: SpanRecord[], supports: Section[]}} Frame
+ * The columns' size is that along the frame, in mm as the lengths are; `bars` of each span, or null where the schedule is refused.
+ * @typedef {{way: Way, line: number, lengths: number[], columns: number, spans: SpanRecord[], bars: SpanBars[] | null, supports: Section[]}} Frame
  */
 
 /** @param {Judged} judged of a clear floor @param {Way} way @param {number} line @returns {Frame} */
@@ -21,6 +23,7 @@ export function frameOf(judged, way, line) {
         lengths,
         columns: way === 'x' ? cx : cy,
         spans: lengths.map((_, span) => spanRecord(judged, way, line, span)),
+        bars: frameBars(judged, way, line),
         supports: [0, ...lengths].map((_, support) => supportAt(judged, way, line, support)),
     };
 }

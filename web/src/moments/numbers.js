@@ -1,11 +1,13 @@
-// A frame's numbers in two tables: the three sections of each span with its static moment, and the governing negative at each support.
+// A frame's numbers in two tables: the three sections of each span with its static moment and its bars, and the governing negative at each support.
 
 import { element } from '../dom.js';
+import { BARS_NOTE, sayBars, STRIPS } from '../schedule.js';
 import { kNm, kNmOfNm } from '../units.js';
 import { SUPPORTS_CAPTION, headRow, spanRows, supportRow } from './rows.js';
 
 /** @typedef {import('../dom.js').Attributes} Attributes */
 /** @typedef {import('./frame.js').Frame} Frame */
+/** @typedef {import('./names.js').SectionName} SectionName */
 /**
  * How moments, and static moments, are written.
  * @typedef {{units: string, moment: (nCm: number) => string, mo: (nM: number) => string}} Writing
@@ -26,7 +28,7 @@ const EXACT = {
     mo: String,
 };
 
-/** The tables are made anew only for another number of spans or another direction; otherwise just the cells that differ are written. */
+/** The tables are made anew only for other spans, or where bars come or go; otherwise just the cells that differ are written. */
 export class FrameTables {
     constructor() {
         this.units = element('p', { class: 'units' });
@@ -39,13 +41,13 @@ export class FrameTables {
 
     /** @param {Frame} frame @param {boolean} exact */
     show(frame, exact) {
-        const shape = `${frame.way} ${frame.lengths.length}`;
+        const shape = `${frame.way} ${frame.lengths.length} ${frame.bars === null}`;
         if (shape !== this.shape) {
             this.shape = shape;
             this.make(frame);
         }
         const writing = exact ? EXACT : ROUNDED_UP;
-        this.units.textContent = writing.units;
+        this.units.textContent = frame.bars === null ? writing.units : `${writing.units} ${BARS_NOTE}`;
         for (const { text, reading } of this.cells) {
             const words = reading(frame, writing);
             if (text.data !== words) {
@@ -61,9 +63,10 @@ export class FrameTables {
             { class: 'moment', 'data-support': support, 'data-part': part },
             ({ supports }, { moment }) => moment(supports[support][part]),
         )));
-        this.spans.replaceChildren(element('caption', {}, 'three sections of each span'), headRow('span', 'length, mm', 'Mo', 'section', 'steel'),
+        this.spans.replaceChildren(element('caption', {}, 'three sections of each span'),
+            headRow(['span', 'length, mm', 'Mo', 'section', 'steel'], frame.bars !== null),
             ...frame.lengths.map((_, span) => this.spanBody(frame, span)));
-        this.supports.replaceChildren(element('caption', {}, SUPPORTS_CAPTION), headRow('support', 'at', 'steel'), element('tbody', {}, ...rows));
+        this.supports.replaceChildren(element('caption', {}, SUPPORTS_CAPTION), headRow(['support', 'at', 'steel']), element('tbody', {}, ...rows));
     }
 
     /** @param {Frame} frame @param {number} span */
@@ -76,6 +79,14 @@ export class FrameTables {
         return spanRows(frame.way, leading, (section, part) => this.cell(
             { class: 'moment', 'data-span': span, 'data-section': section, 'data-part': part },
             ({ spans }, { moment }) => moment(spans[span][section][part]),
+        ), (section) => (frame.bars === null ? [] : this.barCells(span, section)));
+    }
+
+    /** @param {number} span @param {SectionName} section */
+    barCells(span, section) {
+        return STRIPS.map((strip) => this.cell(
+            { class: 'bars', 'data-span': span, 'data-section': section, 'data-strip': strip },
+            ({ bars }) => (bars === null ? '' : sayBars(bars[span][section][strip])),
         ));
     }
 

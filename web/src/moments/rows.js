@@ -1,6 +1,7 @@
 // The rows that a frame's tables have on the screen and on the sheet alike.
 
 import { element } from '../dom.js';
+import { STRIPS } from '../schedule.js';
 import { PARTS, SECTIONS } from '../table.js';
 import { PART_NAMES, STEEL_OF_SECTION, sectionName, supportName } from './names.js';
 
@@ -11,22 +12,24 @@ import { PART_NAMES, STEEL_OF_SECTION, sectionName, supportName } from './names.
 export const SUPPORTS_CAPTION = 'larger moment of the two faces at each support';
 
 /**
- * The columns before the parts, then the parts.
- * @param {string[]} leading
+ * The columns before the parts, the parts, then the bars.
+ * @param {string[]} leading @param {boolean} barred whether bars are shown
  */
-export function headRow(...leading) {
-    const names = [...leading, ...PARTS.map((part) => PART_NAMES[part])];
-    return element('thead', {}, element('tr', {}, ...names.map((name) => element('th', {}, name))));
+export function headRow(leading, barred = false) {
+    const names = [...leading, ...PARTS.map((part) => PART_NAMES[part])].map((name) => element('th', {}, name));
+    const bars = STRIPS.map((strip) => element('th', { class: 'bars' }, `bars, ${PART_NAMES[strip]}`));
+    return element('thead', {}, element('tr', {}, ...names, ...(barred ? bars : [])));
 }
 
 /**
  * A span's three sections. What leads stands before all three.
  * @param {Way} way @param {HTMLElement[]} leading each three rows high
  * @param {(section: SectionName, part: keyof Section) => HTMLElement} cell
+ * @param {(section: SectionName) => HTMLElement[]} bars none where none are shown
  */
-export function spanRows(way, leading, cell) {
+export function spanRows(way, leading, cell, bars) {
     const rows = SECTIONS.map((section) => element('tr', {}, ...(section === 'low' ? leading : []), element('td', {}, sectionName(way, section)),
-        element('td', {}, STEEL_OF_SECTION[section]), ...PARTS.map((part) => cell(section, part))));
+        element('td', {}, STEEL_OF_SECTION[section]), ...PARTS.map((part) => cell(section, part)), ...bars(section)));
     return element('tbody', {}, ...rows);
 }
 

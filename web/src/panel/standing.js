@@ -1,8 +1,9 @@
-// Whether the floor is clear, and every broken limit with its places, all together.
+// Whether the floor is clear and can be barred, and every broken limit with its places, all together.
 
 import { element } from '../dom.js';
 import { brokenLimits, CLEAR_SENTENCE } from '../say/limits.js';
 import { sayPlace } from '../say/places.js';
+import { sayUnbarred } from '../say/refusals.js';
 
 /** @typedef {import('../judge.js').Judged} Judged */
 /** @typedef {import('../judge.js').Place} Place */
@@ -19,11 +20,12 @@ const BROKEN_WORDS = 'not clear: moments stand only on a floor that is clear';
 
 export class StandingView {
     /**
-     * @param {HTMLElement} standing @param {HTMLElement} list @param {Words} words
+     * @param {HTMLElement} standing @param {HTMLElement} unbarred @param {HTMLElement} list @param {Words} words
      * @param {(places: Place[]) => void} point shows places in the plan
      */
-    constructor(standing, list, words, point) {
+    constructor(standing, unbarred, list, words, point) {
         this.standing = standing;
+        this.unbarred = unbarred;
         this.list = list;
         this.words = words;
         this.point = point;
@@ -38,6 +40,8 @@ export class StandingView {
     show(judged) {
         this.standing.dataset.verdict = String(judged.verdict);
         this.standing.textContent = judged.verdict === 0 ? CLEAR_SENTENCE : BROKEN_WORDS;
+        const { refusal } = judged.schedule;
+        this.unbarred.textContent = judged.verdict === 0 && refusal !== 0 ? sayUnbarred(this.words, refusal) : '';
         const broken = brokenLimits(this.words, judged);
         const lines = broken.reduce((sum, { places }) => sum + Math.min(places.length, MOST_SAID_PLACES), 0);
         this.list.replaceChildren(...broken.map((limit) => this.limitItem(judged, limit, lines <= MOST_OPEN_PLACES)));

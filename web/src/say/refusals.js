@@ -17,6 +17,15 @@ export function sayRefusal(words, number) {
 }
 
 /**
+ * What is said of a clear floor whose schedule is refused.
+ * @param {Words} words @param {number} number
+ */
+export function sayUnbarred(words, number) {
+    const said = sayRefusal(words, number);
+    return `No bars are shown. ${said[0].toUpperCase()}${said.slice(1)}.`;
+}
+
+/**
  * One record of a floor in the words of its text.
  * @param {Floor} floor @param {Uint8Array} record
  * @returns {string}

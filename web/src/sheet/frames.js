@@ -5,11 +5,13 @@ import { WAYS } from '../floor.js';
 import { frameOf } from '../moments/frame.js';
 import { courseOf, frameName } from '../moments/names.js';
 import { SUPPORTS_CAPTION, headRow, spanRows, supportRow } from '../moments/rows.js';
+import { sayBars, STRIPS } from '../schedule.js';
 import { linesOf } from '../table.js';
 import { kNm } from '../units.js';
 
 /** @typedef {import('../judge.js').Judged} Judged */
 /** @typedef {import('../moments/frame.js').Frame} Frame */
+/** @typedef {import('../moments/names.js').SectionName} SectionName */
 
 /**
  * Every x line, then every y line.
@@ -26,16 +28,25 @@ export function frameSections(judged) {
 function frameSection(heading, frame) {
     const bodies = frame.lengths.map((length, span) => {
         const leading = [element('th', { rowspan: 3 }, String(span)), element('td', { rowspan: 3 }, String(length))];
-        return spanRows(frame.way, leading, (section, part) => printedMoment(frame.spans[span][section][part]));
+        return spanRows(frame.way, leading, (section, part) => printedMoment(frame.spans[span][section][part]),
+            (section) => printedBars(frame, span, section));
     });
     const supports = frame.supports.map((moments, support) => supportRow(frame.way, support, (part) => printedMoment(moments[part])));
     return element('section', { class: 'frame' }, element('h2', {}, heading),
-        element('table', { class: 'spans' }, headRow('span', 'length, mm', 'section', 'steel'), ...bodies),
-        element('table', { class: 'supports' }, element('caption', {}, SUPPORTS_CAPTION), headRow('support', 'at', 'steel'),
+        element('table', { class: 'spans' }, headRow(['span', 'length, mm', 'section', 'steel'], frame.bars !== null), ...bodies),
+        element('table', { class: 'supports' }, element('caption', {}, SUPPORTS_CAPTION), headRow(['support', 'at', 'steel']),
             element('tbody', {}, ...supports)));
 }
 
 /** @param {number} nCm */
 function printedMoment(nCm) {
     return element('td', { class: 'moment' }, kNm(nCm));
+}
+
+/**
+ * Of both strips, or nothing where the schedule is refused.
+ * @param {Frame} frame @param {number} span @param {SectionName} section
+ */
+function printedBars({ bars }, span, section) {
+    return bars === null ? [] : STRIPS.map((strip) => element('td', { class: 'bars' }, sayBars(bars[span][section][strip])));
 }

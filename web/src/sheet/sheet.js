@@ -2,6 +2,8 @@
 
 import { element } from '../dom.js';
 import { brokenLimits, CLEAR_SENTENCE } from '../say/limits.js';
+import { sayUnbarred } from '../say/refusals.js';
+import { BARS_NOTE } from '../schedule.js';
 import { frameSections } from './frames.js';
 
 /** @typedef {import('../floor.js').Floor} Floor */
@@ -16,14 +18,18 @@ const SHEET_NOTES = 'Moments in kN·m, rounded up to the next 0.01. Top and bott
 export function sheetOf(judged, name, date, words) {
     const head = element('div', { class: 'head' }, element('h1', {}, name), paragraph('date', date));
     return judged.verdict === 0
-        ? element('article', { class: 'sheet clear' }, head, ...clearFloor(judged))
+        ? element('article', { class: 'sheet clear' }, head, ...clearFloor(judged, words))
         : element('article', { class: 'sheet broken' }, head, ...brokenFloor(judged, words));
 }
 
-/** @param {Judged} judged */
-function clearFloor(judged) {
-    const head = [paragraph('facts', floorFacts(judged.floor)), paragraph('standing', CLEAR_SENTENCE), paragraph('notes', SHEET_NOTES)];
-    return [...head, ...frameSections(judged)];
+/** @param {Judged} judged @param {Words} words */
+function clearFloor(judged, words) {
+    const { refusal } = judged.schedule;
+    const head = [paragraph('facts', floorFacts(judged.floor)), paragraph('standing', CLEAR_SENTENCE)];
+    const notes = refusal === 0
+        ? [paragraph('notes', `${SHEET_NOTES} ${BARS_NOTE}`)]
+        : [paragraph('unbarred', sayUnbarred(words, refusal)), paragraph('notes', SHEET_NOTES)];
+    return [...head, ...notes, ...frameSections(judged)];
 }
 
 /** @param {Judged} judged @param {Words} words */

@@ -17,6 +17,26 @@ export function garageWith(change) {
 }
 
 /**
+ * Its bytes as an array.
+ * @param {Parameters<typeof garageWith>[0]} change
+ */
+export function changedGarage(change) {
+    return Uint8Array.from(Buffer.from(garageWith(change), 'hex'));
+}
+
+/** Clear, with more moment in a middle strip than any bar has a spacing for. */
+export const HEAVY_FLOOR = changedGarage((floor) => Object.assign(floor, { dead: 30000, live: 50000 }));
+
+/** Clear, with beams as wide as the column strips of the inside lines. */
+export const WIDE_BEAMS = changedGarage((floor) => {
+    /** @type {() => [number, number][]} */
+    const beams = () => Array.from({ length: 4 }, () => [1000, 1000]);
+    floor.spans = { x: [2000, 2000, 2000], y: [2000, 2000, 2000] };
+    floor.beams = { x: beams(), y: beams() };
+    floor.offsets = Array.from({ length: 16 }, () => [0, 0]);
+});
+
+/**
  * 12 by 12 bays with beams on every line: all of the table, all five curves of a frame.
  * @returns {Uint8Array}
  */

@@ -79,6 +79,13 @@ for (const [width, height] of [[1280, 800], [1024, 768]]) {
         await assertFits(width, height);
         assert.ok(await page.count('#plan text, #diagram text') > 50);
         assert.deepEqual(await browser.run(overlaps), [], 'in the garage');
+        const [frame, shown] = await browser.run(() => {
+            const { scrollWidth, clientWidth } = /** @type {Element} */ (document.querySelector('#frame'));
+            return [scrollWidth, clientWidth];
+        });
+        assert.ok(frame <= shown, `the numbers of a frame are ${frame} pixels wide, and ${shown} are shown`);
+        const rows = await browser.run(() => Array.from(document.querySelectorAll('header button'), (button) => button.getBoundingClientRect().top));
+        assert.equal(new Set(rows).size, 1, 'the buttons stand in one row');
         await browser.picture(join(lookedAt(), `garage-${width}.png`));
         await page.lay(largest());
         await browser.until(() => document.querySelectorAll('#plan g.panel').length === 144);

@@ -1,4 +1,4 @@
-// On a floor that is not clear there is no moment anywhere in the document, nor on the paper that is printed of it.
+// On a floor that is not clear there is no moment and no bar anywhere in the document, nor on the paper that is printed of it.
 
 import assert from 'node:assert/strict';
 import { spawnSync } from 'node:child_process';
@@ -72,9 +72,22 @@ function sheetWithoutNameAndDate() {
     return rest.textContent ?? '';
 }
 
+/** In the page: every text that is said as bars are, shown or not. */
+function barsInDocument() {
+    const bars = [];
+    const walker = document.createTreeWalker(document.body, NodeFilter.SHOW_TEXT);
+    for (let node = walker.nextNode(); node !== null; node = walker.nextNode()) {
+        if (!node.parentElement?.closest('script') && /\d+ @ \d+/.test(node.nodeValue ?? '')) {
+            bars.push(node.nodeValue);
+        }
+    }
+    return bars;
+}
+
 async function assertNoMoment(/** @type {string[]} */ moments) {
     const { page, browser } = seat;
     assert.equal(await page.count('td, svg#diagram, #frame-pick, #frame table'), 0);
+    assert.deepEqual(await browser.run(barsInDocument), []);
     const there = new Set(await browser.run(numbersInDocument));
     assert.deepEqual(moments.filter((moment) => there.has(moment)), []);
 }
@@ -99,6 +112,7 @@ for (const { limit, hex: broken } of BROKEN) {
         assert.ok(moments.length > 500, `${moments.length} moments`);
         const first = await browser.run(numbersInDocument);
         assert.ok(moments.some((moment) => first.includes(moment)), 'moments are found where there are some');
+        assert.equal((await browser.run(barsInDocument)).length, 24, 'and bars are, of a frame of four spans');
         await page.lay(Uint8Array.from(Buffer.from(broken, 'hex')));
         const verdict = await page.verdict();
         assert.equal(verdict & limit, limit);

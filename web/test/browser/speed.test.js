@@ -57,6 +57,7 @@ for (const { what, far, verdict } of [{ what: 'a clear floor', far: 1, verdict: 
         await page.lay(largest());
         const times = await browser.run(timesOfSteps, STEPS, far);
         assert.equal(times.verdict, verdict);
+        assert.equal(await page.count('#frame-table td.bars'), verdict === 0 ? 72 : 0, 'the bars of twelve spans are part of a step');
         const [step, frame] = [times.took, times.frames].map(median);
         context.diagnostic(`${what}: a step takes ${step.toFixed(1)} ms in the median, and ${Math.max(...times.took).toFixed(1)} at most; `
             + `until the next frame ${frame.toFixed(1)} ms`);

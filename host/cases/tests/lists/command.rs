@@ -1,5 +1,6 @@
 //! The command: what it prints of a floor or a query, and the example floor that is kept.
 
+use cases::floors::schedules;
 use cases::floors::small::one_bay;
 use cases::garage::garage;
 use cases::{morning, refusals};
@@ -57,7 +58,14 @@ fn the_command_prints_a_morning() {
 fn the_command_lists_the_cases() {
     let listed = printed(&["list"], &[]);
     assert_eq!(listed.lines().next(), Some("1\t1\tempty file"));
-    assert_eq!(listed.lines().count(), refusals::all().len());
+    let schedules = schedules::floors();
+    let count = refusals::all().len() + schedules.len();
+    assert_eq!(listed.lines().count(), count);
+    let last = "schedule, 12x12, strip of 0 mm in the last record, across";
+    assert_eq!(
+        listed.lines().last(),
+        Some(&format!("{count}\t17\t{last}")[..])
+    );
 }
 
 /// 01's floor of one bay each way: 4,000 less 400 over 30 is 120, and 125 is the least.

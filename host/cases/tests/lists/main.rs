@@ -10,6 +10,8 @@ mod morning;
 mod places;
 mod queries;
 mod runs;
+mod scheduled;
+mod schedules;
 mod single;
 mod tables;
 mod weak;

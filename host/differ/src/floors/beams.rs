@@ -38,7 +38,11 @@ pub fn edge(draw: &mut Draw) -> (&'static str, Floor, Floor) {
 }
 
 /// From a number that passes to one that breaks, by halving: the last that passes and the first that breaks.
-fn edge_between(passing: u32, breaking: u32, breaks: impl Fn(u32) -> bool) -> Option<(u32, u32)> {
+pub fn edge_between(
+    passing: u32,
+    breaking: u32,
+    breaks: impl Fn(u32) -> bool,
+) -> Option<(u32, u32)> {
     if breaks(passing) || !breaks(breaking) {
         return None;
     }

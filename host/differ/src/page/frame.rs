@@ -12,6 +12,7 @@ pub enum Call {
     Clear = 4,
     Places = 5,
     Steel = 6,
+    Schedule = 7,
 }
 
 /// What a call is given; what it has no use for is empty or 0.
@@ -20,7 +21,8 @@ pub struct Asked<'a> {
     /// Table and governing slice, or the slice for places.
     pub slices: [&'a [u32]; 2],
     pub floor: &'a [u8],
-    pub change: &'a [u8],
+    /// The change, or the buffer for the schedule.
+    pub bytes: &'a [u8],
     /// The panel's bays, or the steel query.
     pub numbers: [u64; 6],
 }
@@ -31,7 +33,7 @@ impl Asked<'_> {
             call,
             slices: [&[]; 2],
             floor: &[],
-            change: &[],
+            bytes: &[],
             numbers: [0; 6],
         }
     }
@@ -44,7 +46,7 @@ impl Asked<'_> {
             first.len(),
             second.len(),
             self.floor.len(),
-            self.change.len(),
+            self.bytes.len(),
         ];
         frame.clear();
         put(frame, &[number, self.call as u32]);
@@ -55,12 +57,12 @@ impl Asked<'_> {
         put(frame, first);
         put(frame, second);
         frame.extend_from_slice(self.floor);
-        frame.extend_from_slice(self.change);
+        frame.extend_from_slice(self.bytes);
     }
 
     pub fn lent_bytes(&self) -> usize {
         let [first, second] = self.slices;
-        size_of_val(first) + size_of_val(second) + self.floor.len() + self.change.len()
+        size_of_val(first) + size_of_val(second) + self.floor.len() + self.bytes.len()
     }
 }
 
@@ -69,8 +71,8 @@ impl fmt::Display for Asked<'_> {
     fn fmt(&self, f: &mut fmt::Formatter) -> fmt::Result {
         let Asked { call, numbers, .. } = self;
         let [first, second] = self.slices.map(<[u32]>::len);
-        let (floor, change) = (hex(self.floor), hex(self.change));
-        write!(f, "{call:?} on slices of {first} and {second}, numbers {numbers:?}, change {change}, floor\n{floor}")
+        let (floor, bytes) = (hex(self.floor), hex(self.bytes));
+        write!(f, "{call:?} on slices of {first} and {second}, numbers {numbers:?}, bytes {bytes}, floor\n{floor}")
     }
 }
 

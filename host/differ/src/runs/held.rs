@@ -7,6 +7,7 @@ use crate::lent::Lent;
 use crate::panels;
 use crate::places;
 use crate::same::same_answer;
+use crate::schedules;
 use crate::tally::{Before, Step, Tally};
 use cases::draw::Draw;
 use cases::runs::ties;
@@ -96,8 +97,10 @@ impl Held {
         places::compare(case, &self.floor, &self.lent_floor)
     }
 
-    pub fn panels(&self, case: &mut Case) -> Result<(), String> {
-        panels::compare(case, &self.floor, &self.lent_floor)
+    /// What takes long, at the end of a run.
+    pub fn panels_and_schedule(&self, case: &mut Case) -> Result<(), String> {
+        panels::compare(case, &self.floor, &self.lent_floor)?;
+        schedules::compare(case, &self.floor, &self.lent_floor)
     }
 
     /// Any numbers in place of a stretch of the table, or of the slice, in both.

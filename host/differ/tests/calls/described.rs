@@ -1,14 +1,15 @@
 //! Batches of what is described one by one: floors and changes that each show one thing, runs of changes, floors broken
-//! in one place, here and there or everywhere, steel queries.
+//! in one place, here and there or everywhere, floors to schedule bars of, steel queries.
 
 use crate::stream::{Batch, Call, Lent, LONGEST_GOVERNING, LONGEST_TABLE};
-use cases::floors::{all_broken, scattered, single, Described};
+use cases::floors::{all_broken, scattered, schedules, single, Described};
 use cases::queries;
 use cases::refusals::{self, Case};
 use cases::runs::{self, Run};
 use gandhrumil::Query;
 use reference::places::{self, broken_places};
 use reference::refusals::{refusal, SUCCESS};
+use reference::schedule;
 
 fn of_case(case: Case) -> Batch {
     // As many numbers as any floor of that length asks for, and more.
@@ -22,6 +23,7 @@ fn of_case(case: Case) -> Batch {
     batch.make(case.change.map_or(Call::Open, Call::Change));
     batch.make(Call::Clear);
     batch.make(Call::Places(vec![9; 6]));
+    batch.make(Call::Schedule(vec![9; 6]));
     batch.show();
     batch
 }
@@ -63,6 +65,19 @@ fn of_broken() -> Vec<Batch> {
     floors.into_iter().map(batch).collect()
 }
 
+/// On a buffer with a byte past the schedule, and on one that lacks a byte.
+fn of_bars() -> Vec<Batch> {
+    let batch = |floor: Described| {
+        let mut batch = Batch::new(Lent::of(&floor.bytes, &[], &[]));
+        let asked = schedule::length(&floor.bytes);
+        for length in [asked + 1, asked - 1] {
+            batch.make(Call::Schedule(vec![9; length]));
+        }
+        batch
+    };
+    schedules::floors().into_iter().map(batch).collect()
+}
+
 fn of_query(query: reference::steel::Query) -> Call {
     let [m, b, t, d, fc, fy] = query.numbers().map(|number| u64::try_from(number).unwrap());
     Call::Steel(Query { m, b, t, d, fc, fy })
@@ -78,6 +93,7 @@ pub fn batches() -> Vec<Batch> {
     cases
         .chain(runs)
         .chain(of_broken())
+        .chain(of_bars())
         .chain([queries_alone])
         .collect()
 }

@@ -113,6 +113,7 @@ fn refused_floors() -> [Batch; 3] {
         Call::Panel(0, 0),
         Call::Clear,
         Call::Places(vec![]),
+        Call::Schedule(vec![]),
     ];
     let mut refused = [
         batch(no_floor, &on_no_floor),
@@ -140,6 +141,35 @@ fn broken_in_one_place() -> [Batch; 3] {
     [stray, thin(4_920), thin(4_900)].map(|floor| batch(Lent::of(&floor.bytes(), &[], &[]), &asked))
 }
 
+/// 3 by 3 bays of 2,000 with beams everywhere: a schedule with a byte past it, and a buffer too short for it. With too much live load the
+/// floor is refused 16, with a beam on y line 1 that is as wide as its column strip 17.
+fn schedules() -> [Batch; 3] {
+    let barred = Floor {
+        t: 125,
+        x_spans: vec![2_000; 3],
+        y_spans: vec![2_000; 3],
+        x_lines: vec![(301, 400); 4],
+        y_lines: vec![(301, 400); 4],
+        ..Floor::clear(3, 3)
+    };
+    let mut unclear = barred.clone();
+    unclear.live = 10_001;
+    let mut unbarred = barred.clone();
+    unbarred.y_lines[1].0 = 1_000;
+    let asked = |floor: Floor, lengths: &[usize]| {
+        let calls: Vec<Call> = lengths
+            .iter()
+            .map(|&length| Call::Schedule(vec![9; length]))
+            .collect();
+        batch(Lent::of(&floor.bytes(), &[], &[]), &calls)
+    };
+    [
+        asked(barred, &[4_609, 40]),
+        asked(unclear, &[3]),
+        asked(unbarred, &[4_608]),
+    ]
+}
+
 /// Every limit at every place of 2 by 2 bays: 35 places, on a slice that lacks a number and on one with two too many.
 fn broken_everywhere() -> Batch {
     let floor = all_broken(2, 2).bytes();
@@ -153,6 +183,7 @@ pub fn batches() -> Vec<Batch> {
     batches.extend(refused_floors());
     batches.extend(broken_in_one_place());
     batches.push(broken_everywhere());
+    batches.extend(schedules());
     batches.push(batch(Lent::default(), &queries));
     batches
 }

@@ -14,7 +14,7 @@ use std::fs;
 use std::path::{Path, PathBuf};
 use stream::{
     Batch, Call, Lent, LONGEST_CHANGE, LONGEST_FLOOR, LONGEST_GOVERNING, LONGEST_PLACES,
-    LONGEST_TABLE,
+    LONGEST_SCHEDULE, LONGEST_TABLE,
 };
 
 fn stdin(batches: &[Batch]) -> Vec<u8> {
@@ -65,6 +65,10 @@ fn of_places(call: &Call) -> bool {
     matches!(call, Call::Places(_))
 }
 
+fn of_schedule(call: &Call) -> bool {
+    matches!(call, Call::Schedule(_))
+}
+
 fn of_steel(call: &Call) -> bool {
     matches!(call, Call::Steel(_))
 }
@@ -76,6 +80,10 @@ fn floors_and_panels() {
     assert!(refusals(&batches, of_panel).contains(&10));
     assert_eq!(refusals(&batches, of_clear), (0..=7).collect());
     assert_eq!(refusals(&batches, of_places), (0..=7).chain([25]).collect());
+    assert_eq!(
+        refusals(&batches, of_schedule),
+        (0..=7).chain(15..=17).collect()
+    );
     compare(&batches);
 }
 
@@ -101,6 +109,10 @@ fn what_is_described() {
     assert_eq!(refusals(&batches, changing), (0..=9).chain([13]).collect());
     assert_eq!(refusals(&batches, of_clear), (0..=7).collect());
     assert_eq!(refusals(&batches, of_places), (0..=7).chain([25]).collect());
+    assert_eq!(
+        refusals(&batches, of_schedule),
+        (0..=7).chain(15..=17).collect()
+    );
     compare(&batches);
 }
 
@@ -131,6 +143,7 @@ fn lengths_to_the_end_of_the_buffers() {
     ));
     batch.make(Call::Change(vec![9; LONGEST_CHANGE]));
     batch.make(Call::Places(vec![6; LONGEST_PLACES]));
+    batch.make(Call::Schedule(vec![5; LONGEST_SCHEDULE]));
     batch.show();
     compare(&[batch]);
     for stopped in [
@@ -139,6 +152,7 @@ fn lengths_to_the_end_of_the_buffers() {
         words(&[0, 0, LONGEST_GOVERNING + 1]),
         words(&[0, 0, 0, 1, 2, LONGEST_CHANGE + 1]),
         words(&[0, 0, 0, 1, 7, LONGEST_PLACES + 1]),
+        words(&[0, 0, 0, 1, 8, LONGEST_SCHEDULE + 1]),
         words(&[usize::MAX]),
     ] {
         let stdin = [stopped, next_batch()].concat();
@@ -149,7 +163,7 @@ fn lengths_to_the_end_of_the_buffers() {
 /// At a batch without calls and at words that are no call. An input that ends goes on with zeros.
 #[test]
 fn where_it_stops() {
-    for stopped in [[0, 0, 0, 0, 0], [0, 0, 0, 1, 0], [0, 0, 0, 1, 8]] {
+    for stopped in [[0, 0, 0, 0, 0], [0, 0, 0, 1, 0], [0, 0, 0, 1, 9]] {
         let stdin = [words(&stopped), next_batch()].concat();
         assert_eq!(printed("calls", &stdin), "");
     }

@@ -18,6 +18,7 @@ const RECORDING: Calls = Calls {
     clear,
     places,
     steel,
+    schedule,
 };
 
 /// The batches of some cases. A case is told its number.
@@ -113,6 +114,14 @@ fn places(floor: &[u8], slice: &mut [u32]) -> Answer {
         |batch| batch.left.floor == floor,
         || Batch::new(Lent::of(floor, &[], &[])),
         |batch| batch.make_places(slice),
+    )
+}
+
+fn schedule(floor: &[u8], bytes: &mut [u8]) -> Answer {
+    in_batch(
+        |batch| batch.left.floor == floor,
+        || Batch::new(Lent::of(floor, &[], &[])),
+        |batch| batch.make_schedule(bytes),
     )
 }
 

@@ -1,7 +1,7 @@
 //! Batches of calls as the program reads them (`crates/calls/src/main.rt` has the form), with the lines that it has to print.
 
 use gandhrumil::{Answer, Query};
-use reference::{clear, governing, held, opening, panel, places, span, steel};
+use reference::{clear, governing, held, opening, panel, places, schedule, span, steel};
 
 /// What the program's buffers have room for.
 pub const LONGEST_FLOOR: usize = 4096;
@@ -9,6 +9,7 @@ pub const LONGEST_TABLE: usize = 320 * span::NUMBERS;
 pub const LONGEST_GOVERNING: usize = 346 * governing::NUMBERS;
 pub const LONGEST_CHANGE: usize = 64;
 pub const LONGEST_PLACES: usize = 803 * places::NUMBERS;
+pub const LONGEST_SCHEDULE: usize = 60_000;
 
 #[derive(Clone, Debug)]
 pub enum Call {
@@ -20,6 +21,8 @@ pub enum Call {
     Clear,
     /// On a slice of these numbers, all of which are printed as they are left.
     Places(Vec<u32>),
+    /// On a buffer of these bytes, all of which are printed as they are left.
+    Schedule(Vec<u8>),
 }
 
 /// A call with the right lines.
@@ -68,6 +71,10 @@ fn counted(numbers: &[u32]) -> Vec<u8> {
     .concat()
 }
 
+fn counted_bytes(bytes: &[u8]) -> Vec<u8> {
+    [&word(bytes.len()), bytes].concat()
+}
+
 fn word(number: usize) -> [u8; 4] {
     u32::try_from(number).unwrap().to_le_bytes()
 }
@@ -76,12 +83,13 @@ impl Call {
     fn stdin(&self) -> Vec<u8> {
         let (number, rest) = match self {
             Call::Open => (1, Vec::new()),
-            Call::Change(bytes) => (2, [&word(bytes.len()), &bytes[..]].concat()),
+            Call::Change(bytes) => (2, counted_bytes(bytes)),
             Call::Panel(x, y) => (3, wide(&[*x, *y])),
             Call::Steel(Query { m, b, t, d, fc, fy }) => (4, wide(&[*m, *b, *t, *d, *fc, *fy])),
             Call::Show => (5, Vec::new()),
             Call::Clear => (6, Vec::new()),
             Call::Places(slice) => (7, counted(slice)),
+            Call::Schedule(bytes) => (8, counted_bytes(bytes)),
         };
         [&word(number), &rest[..]].concat()
     }
@@ -130,9 +138,10 @@ impl Batch {
             }
             Call::Clear => clear::clear(floor),
             Call::Places(slice) => return self.make_places(&mut slice.clone()),
+            Call::Schedule(bytes) => return self.make_schedule(&mut bytes.clone()),
             Call::Show => panic!("show answers nothing"),
         };
-        self.answered(call, answered, &[])
+        self.answered(call, answered, [0; 0])
     }
 
     /// Leaves the slice as the call does.
@@ -142,10 +151,22 @@ impl Batch {
         self.answered(call, answered, slice)
     }
 
+    /// Leaves the buffer as the call does.
+    pub fn make_schedule(&mut self, bytes: &mut [u8]) -> Answer {
+        let call = Call::Schedule(bytes.to_vec());
+        let answered = schedule::schedule(&self.left.floor, bytes);
+        self.answered(call, answered, bytes)
+    }
+
     /// The answer's line, then the numbers that are printed after it.
-    fn answered(&mut self, call: Call, (refused, value): (u128, u128), numbers: &[u32]) -> Answer {
+    fn answered(
+        &mut self,
+        call: Call,
+        (refused, value): (u128, u128),
+        numbers: impl IntoIterator<Item: ToString>,
+    ) -> Answer {
         let mut lines = vec![format!("{refused} {value}")];
-        lines.extend(numbers.iter().map(ToString::to_string));
+        lines.extend(numbers.into_iter().map(|number| number.to_string()));
         self.made.push(Made { call, lines });
         Answer {
             refusal: u32::try_from(refused).unwrap(),

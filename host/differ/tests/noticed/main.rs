@@ -9,6 +9,7 @@ mod noticing;
 mod openings;
 mod order;
 mod places;
+mod schedules;
 mod slices;
 mod stiffness;
 mod supports;
@@ -27,7 +28,7 @@ use noticing::noticed;
 use std::sync::LazyLock;
 
 const FEW: Amount = Amount {
-    floors: 500,
+    floors: 1_050,
     flipped: 0,
     changes: 2_000,
     queries: 2_000,
@@ -170,7 +171,7 @@ fn what_never_came_up() {
         "a floor asked whether it is clear: Refused(7)",
         "a floor asked for its places: Several",
         "a floor asked for its places: Refused(25)",
-        "a slice for places: a number short",
+        "a slice for places: one short",
         "a floor with several places of limit 8",
         "a floor with one place of limit 64",
         "a panel query: refusal 10",
@@ -187,6 +188,24 @@ fn what_never_came_up() {
         "a change of kind 5 that keeps a floor clear, on a slice that agrees",
         "a change that makes a tie",
         "a steel query: refusal 12",
+    ] {
+        assert!(missed.iter().any(|one| one == words), "{words}");
+    }
+}
+
+#[test]
+fn what_never_came_up_of_schedules() {
+    let missed = variety::all(&Tally::default());
+    for words in [
+        "a floor asked for its schedule: Written",
+        "a floor asked for its schedule: LaterUnbarred",
+        "a floor asked for its schedule: Refused(15)",
+        "a floor asked for its schedule: Refused(16)",
+        "a buffer for a schedule: one short",
+        "bars: 16 mm",
+        "bars: just enough",
+        "a strip without its Area",
+        "a schedule at each of 16 addresses",
     ] {
         assert!(missed.iter().any(|one| one == words), "{words}");
     }

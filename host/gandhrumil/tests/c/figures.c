@@ -1,4 +1,4 @@
-/* The six calls on what 01 gives an answer for, and governing moments worked out by hand. C99 that is C++ too. */
+/* The seven calls on what 01 gives an answer for, and governing moments and bars worked out by hand. C99 that is C++ too. */
 #include "gandhrumil.h"
 
 #include "floor.h"
@@ -253,6 +253,88 @@ static void no_places(void)
     expect_left("places, none", places, 4, 7);
 }
 
+static uint32_t little_endian_at(const uint8_t *at)
+{
+    return at[0] | (uint32_t)at[1] << 8 | (uint32_t)at[2] << 16 | (uint32_t)at[3] << 24;
+}
+
+static void expect_entry(const uint8_t *found, const uint32_t *right)
+{
+    int same = 0;
+    for (int i = 0; i < 8; i++)
+        same += little_endian_at(found + 4 * i) == right[i];
+    if (same == 8)
+        return;
+    wrong++;
+    printf("schedule, record %u, section %u, strip %u: only %d of eight numbers are right\n", (unsigned)right[0], (unsigned)right[1],
+           (unsigned)right[2], same);
+}
+
+/* Nothing is written there. */
+static void expect_bytes_left(const char *what, const uint8_t *bytes, int count, uint8_t before)
+{
+    int left = 0;
+    for (int i = 0; i < count; i++)
+        left += bytes[i] == before;
+    if (left == count)
+        return;
+    wrong++;
+    printf("%s: %d bytes of %d are left alone\n", what, left, count);
+}
+
+/* 3 by 3 bays of 6,000 without beams, as for the governing moments: record 3 is the first span of x line 1, both of whose strips are 3,000 wide.
+ * Mo 216,384 has the shares 26, 52 and 70; between, 60 percent of its 11,251,968 are in the column strip. The least area, 756 * 3000 * 200 / 420000
+ * = 1,080, carries all but the largest: As * (4437000 - 70 * As) must reach 7,663,600,000 for 11,360,160, and 1,777 gives 7,663,507,970. Bars of 10:
+ * 79 * 3000 / 1080 = 219, and by 1778 133. */
+static void schedule_of_a_span(void)
+{
+    static const uint32_t right[6][8] = {
+        { 3, 0, 0, 3000, 5625984, 1080, 10, 210 },  { 3, 0, 1, 3000, 0, 1080, 10, 210 },
+        { 3, 1, 0, 3000, 6751180, 1080, 10, 210 },  { 3, 1, 1, 3000, 4500788, 1080, 10, 210 },
+        { 3, 2, 0, 3000, 11360160, 1778, 10, 130 }, { 3, 2, 1, 3000, 3786720, 1080, 10, 210 },
+    };
+    /* 24 records of the table; lent from an odd address on. */
+    enum { BYTES = 32 * 6 * 24 };
+    uint8_t memory[BYTES + 2], *schedule = memory + 1;
+    floor_file floor = square(3, NO_BEAMS), thin = past(0, 3, 3, 186);
+    memset(memory, 7, sizeof memory);
+    expect("schedule, a byte short", gandhrumil_schedule(floor.bytes, floor.len, schedule, BYTES - 1), 15, 0);
+    expect("schedule, not clear", gandhrumil_schedule(thin.bytes, thin.len, schedule, BYTES), 16, 0);
+    expect("schedule, not clear, a byte short", gandhrumil_schedule(thin.bytes, thin.len, schedule, BYTES - 1), 16, 0);
+    expect_bytes_left("schedule, refused", memory, BYTES + 2, 7);
+    expect("schedule", gandhrumil_schedule(floor.bytes, floor.len, schedule, BYTES + 1), 0, 144);
+    for (int i = 0; i < 6; i++)
+        expect_entry(schedule + 32 * (6 * 3 + i), right[i]);
+    expect_bytes_left("schedule, before it", memory, 1, 7);
+    expect_bytes_left("schedule, past it", memory + 1 + BYTES, 1, 7);
+}
+
+/* Beams of 1,000 leave nothing of the column strip inside, beams of 900 leave 100 mm; 1 to 7 come before all else, 15 before 17. */
+static void schedule_or_not(void)
+{
+    enum { BYTES = 32 * 6 * 24 };
+    uint8_t schedule[BYTES];
+    floor_file wide = wide_beams(3, 1000), narrow = wide_beams(3, 900);
+    memset(schedule, 7, sizeof schedule);
+    expect("schedule, no width", gandhrumil_schedule(wide.bytes, wide.len, schedule, BYTES), 17, 0);
+    expect("schedule, no width, a byte short", gandhrumil_schedule(wide.bytes, wide.len, schedule, BYTES - 1), 15, 0);
+    for (uint32_t number = 1; number <= 7; number++) {
+        floor_file floor = refused(number);
+        expect("schedule, refused floor", gandhrumil_schedule(floor.bytes, floor.len, schedule, 0), number, 0);
+    }
+    expect_bytes_left("schedule, refused", schedule, BYTES, 7);
+    expect("schedule, 100 mm", gandhrumil_schedule(narrow.bytes, narrow.len, schedule, BYTES), 0, 144);
+}
+
+/* Twelve bays each way have the most records: 6 * (13 * 12 + 13 * 12). */
+static void longest_schedule(void)
+{
+    static uint8_t schedule[GANDHRUMIL_SCHEDULE_LEN];
+    floor_file floor = square(12, NO_BEAMS);
+    expect("schedule, longest", gandhrumil_schedule(floor.bytes, floor.len, schedule, GANDHRUMIL_SCHEDULE_LEN), 0, 1872);
+    expect("schedule, no room", gandhrumil_schedule(floor.bytes, floor.len, schedule, GANDHRUMIL_SCHEDULE_LEN - 1), 15, 0);
+}
+
 int main(void)
 {
     floors();
@@ -263,6 +345,9 @@ int main(void)
     most_places();
     no_places();
     governing_moments();
+    schedule_of_a_span();
+    schedule_or_not();
+    longest_schedule();
     expect("steel", gandhrumil_steel(2195000, 1000, 150, 124, 30, 420), 0, 484);
     expect("steel for no moment", gandhrumil_steel(0, 1000, 150, 124, 30, 420), 0, 270);
     expect("too much moment", gandhrumil_steel(20000000, 1000, 150, 124, 30, 420), 12, 0);

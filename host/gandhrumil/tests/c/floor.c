@@ -62,6 +62,17 @@ floor_file square(uint32_t bays, layout beams)
     return floor;
 }
 
+floor_file wide_beams(uint32_t bays, uint32_t width)
+{
+    floor_file floor = square(bays, BEAMS_EVERYWHERE);
+    const size_t spans = 4, lines = spans + 2 * bays, columns = lines + 2 * (bays + 1);
+    for (size_t record = spans; record < lines; record++)
+        set(&floor, record, 2000, 0, 0);
+    for (size_t record = lines; record < columns; record++)
+        set(&floor, record, width, 600, 0);
+    return floor;
+}
+
 /* In turn one and the other, from the first. */
 static void append_in_turn(floor_file *floor, uint32_t kind, uint32_t count, uint32_t one, uint32_t other)
 {

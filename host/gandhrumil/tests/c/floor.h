@@ -27,6 +27,9 @@ floor_file square(uint32_t bays, layout beams);
  * panel breaks 32 and 64. */
 floor_file broken(uint32_t bays);
 
+/* Square, with bays of 2,000 and beams of this width everywhere. Inside the column strip has 2 * 2000 / 4 = 1000 mm, beam and slab together. */
+floor_file wide_beams(uint32_t bays, uint32_t width);
+
 /* The floor with one record written anew; it keeps its kind and index. */
 void set(floor_file *floor, size_t record, uint32_t a, uint32_t b, uint32_t c);
 

@@ -15,6 +15,7 @@ static floor_file floor_lent;
 static uint32_t table[TABLE_NUMBERS], governing[GOVERNING_NUMBERS];
 static uint32_t places[GANDHRUMIL_PLACES_LEN];
 static uint8_t change[RECORD_BYTES];
+static uint8_t schedule[GANDHRUMIL_SCHEDULE_LEN];
 static gandhrumil_answer answer;
 static int wrong;
 
@@ -47,6 +48,16 @@ static void call_places(void)
 static void call_places_short(void)
 {
     answer = gandhrumil_places(floor_lent.bytes, floor_lent.len, places, GANDHRUMIL_PLACES_LEN - 1);
+}
+
+static void call_schedule(void)
+{
+    answer = gandhrumil_schedule(floor_lent.bytes, floor_lent.len, schedule, GANDHRUMIL_SCHEDULE_LEN);
+}
+
+static void call_schedule_short(void)
+{
+    answer = gandhrumil_schedule(floor_lent.bytes, floor_lent.len, schedule, GANDHRUMIL_SCHEDULE_LEN - 1);
 }
 
 static void call_steel(void)
@@ -112,6 +123,10 @@ static void measure_layout(layout beams, uint32_t thickness)
     measure("places, every panel too thin", call_places, thin, 0, BAYS * BAYS);
     measure("places, last column off", call_places, off, 0, 1);
     measure("places, refused 5", call_places, late, 5, 0);
+    measure("schedule", call_schedule, clear, 0, GANDHRUMIL_SCHEDULE_LEN / 32);
+    measure("schedule, refused 15", call_schedule_short, clear, 15, 0);
+    measure("schedule, refused 16", call_schedule, thin, 16, 0);
+    measure("schedule, refused 5", call_schedule, late, 5, 0);
     write_record(change, 3, 0, 6000, 3000, 0);
     measure("change, clear to clear", call_change, clear, 0, 0);
     measure("change, too thin before and after", call_change, thin, 0, 64);
@@ -135,6 +150,8 @@ int main(void)
     puts("every limit broken in every place");
     measure("places", call_places, broken(BAYS), 0, GANDHRUMIL_PLACES_LEN / 4);
     measure("places, refused 25", call_places_short, broken(BAYS), 25, 0);
+    puts("beams as wide as their column strips");
+    measure("schedule, refused 17", call_schedule, wide_beams(BAYS, 1000), 17, 0);
     puts("no floor");
     measure("steel", call_steel, floor_lent, 0, 484);
     return wrong != 0;

@@ -1,5 +1,6 @@
 //! What 01 says, written down by hand and held against the code.
 
+mod bars;
 mod changes;
 mod clear;
 mod floors;
@@ -14,6 +15,7 @@ mod opening;
 mod panel;
 mod places;
 mod ranges;
+mod schedule;
 mod sheet;
 mod steel;
 mod steel_by_code;

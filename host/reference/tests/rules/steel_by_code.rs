@@ -48,7 +48,7 @@ fn enough(query: Query, area: u128) -> (bool, bool) {
     (steel, code.strain >= whole(0))
 }
 
-fn queries() -> Vec<Query> {
+pub fn queries() -> Vec<Query> {
     const SIZES: [[u128; 3]; 5] = [
         [1_000, 150, 124],
         [3_130, 200, 0],

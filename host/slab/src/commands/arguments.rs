@@ -12,10 +12,11 @@ pub struct Arguments<'a> {
 }
 
 /// Every option, and where it asks for a word the fault of having none.
-const OPTIONS: [(&str, Option<&str>); 5] = [
+const OPTIONS: [(&str, Option<&str>); 6] = [
     ("--all", None),
     ("--html", None),
     ("-o", Some("no file is named after -o")),
+    ("--out", Some("no file is named after --out")),
     ("--name", Some("no name stands after --name")),
     ("--date", Some("no date stands after --date")),
 ];
@@ -31,8 +32,7 @@ impl<'a> Arguments<'a> {
         let (mut plain, mut given) = (Vec::new(), Vec::new());
         let mut words = words.iter().map(OsString::as_os_str);
         while let Some(word) = words.next() {
-            let shown =
-                |(option, _): &&(&str, _)| word == *option && command.usage.contains(option);
+            let shown = |(option, _): &&(&str, _)| word == *option && shows(command, option);
             let fits = if let Some((option, asks)) = OPTIONS.iter().find(shown) {
                 let next = |fault: &str| words.next().ok_or_else(|| unusable(command, fault));
                 let once = given.iter().all(|(other, _)| other != option);
@@ -73,6 +73,12 @@ impl<'a> Arguments<'a> {
     pub fn output(&self) -> Option<&'a OsStr> {
         self.after("-o")
     }
+}
+
+/// Whether the option is a word of the usage.
+fn shows(command: &Command, option: &str) -> bool {
+    let mut words = command.usage.split([' ', '[', ']']);
+    words.any(|word| word == option)
 }
 
 /// `-` stands for standard input.

@@ -40,7 +40,7 @@ fn run(words: &[OsString]) -> Ended {
     let arguments = Arguments::read(&COMMAND, words)?;
     let output = arguments.output();
     if output.is_some() {
-        output::no_terminal(output)?;
+        output::no_terminal(output, "a floor file", "-o")?;
     }
     let changes = read(&arguments.changes)?;
     let given = Given::read(arguments.input)?;

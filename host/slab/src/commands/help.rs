@@ -23,9 +23,9 @@ A floor file is bytes; write a text, and `slab make` turns it into one. For exam
   slab make garage.txt -o garage.floor
   slab check garage.floor
 
-Exit status of `slab check`, `clear`, `change` and `sheet`: 0 clear, 1 not clear, 2 refused. Any
-command: 3 where the command line, a text or a file cannot be used; 0 otherwise, and 2 where
-`slab text` is given a file that is not laid out as a floor. `-` stands for standard input or
+Exit status of `slab check`, `clear`, `change`, `sheet` and `schedule`: 0 clear, 1 not clear, 2
+refused. Any command: 3 where the command line, a text or a file cannot be used; 0 otherwise, and 2
+where `slab text` is given a file that is not laid out as a floor. `-` stands for standard input or
 standard output.
 ";
 

@@ -18,7 +18,7 @@ pub const COMMAND: Command = Command {
 
 fn run(words: &[OsString]) -> Ended {
     let arguments = Arguments::read(&COMMAND, words)?;
-    output::no_terminal(arguments.output())?;
+    output::no_terminal(arguments.output(), "a floor file", "-o")?;
     let input = Input::read(arguments.input)?;
     let file = text::floor(&input)?.bytes();
     output::write(arguments.output(), &file)?;

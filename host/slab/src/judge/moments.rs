@@ -1,5 +1,6 @@
 //! The moments of a clear floor, found in the library's table and governing slice.
 
+use super::order;
 use crate::way::Way;
 use floor::Floor;
 
@@ -29,8 +30,7 @@ impl<'a> Moments<'a> {
     }
 
     pub fn span(&self, way: Way, line: usize, span: usize) -> SpanMoments {
-        let spans = |way: Way| way.spans(&self.floor).len();
-        let record = 16 * (self.before(way, spans) + line * spans(way) + span);
+        let record = 16 * order::record(&self.floor, way, line, span);
         let section = |at: usize| five(self.table, record + at);
         SpanMoments {
             whole: self.table[record],
@@ -40,17 +40,8 @@ impl<'a> Moments<'a> {
 
     /// The larger of its two faces.
     pub fn support(&self, way: Way, line: usize, support: usize) -> Section {
-        let supports = |way: Way| way.spans(&self.floor).len() + 1;
-        let entry = self.before(way, supports) + line * supports(way) + support;
+        let entry = order::entry(&self.floor, way, line, support);
         five(self.governing, 5 * entry)
-    }
-
-    /// The x frames come first, then the y frames: what stands before those along a way, of so many things on each line.
-    fn before(&self, way: Way, on_line: impl Fn(Way) -> usize) -> usize {
-        match way {
-            Way::X => 0,
-            Way::Y => Way::X.lines(&self.floor) * on_line(Way::X),
-        }
     }
 }
 

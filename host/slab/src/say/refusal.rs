@@ -12,6 +12,12 @@ pub fn sentence(number: u32) -> String {
     }
 }
 
+/// In the place of the bars, on the sheet of a clear floor whose schedule is refused.
+pub fn no_bars(number: u32) -> String {
+    let reason = sentences::refusal(number).expect("a refusal of schedules");
+    format!("No bars are shown. Refused {number}: {reason}.")
+}
+
 /// The sentence, then what to look at.
 pub fn page(number: u32, given: &Given) -> String {
     let Given { file, length, .. } = given;

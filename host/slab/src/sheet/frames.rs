@@ -1,11 +1,16 @@
 //! The frames of a clear floor: of each line its spans with their sections, and its supports.
 
-use crate::judge::{Moments, Section};
+use super::BAR_HEADS;
+use crate::judge::{Bars, Moments, Schedule, Section};
 use crate::way::Way;
 use floor::Floor;
 
 pub struct Frame {
+    pub name: String,
+    /// The name, and which way the spans go.
     pub title: String,
+    /// Of the columns that the bars stand in, where there are bars.
+    pub bar_heads: &'static [&'static str],
     pub spans: Vec<Span>,
     pub supports: Vec<Support>,
 }
@@ -23,6 +28,8 @@ pub struct Row {
     pub section: String,
     pub steel: &'static str,
     pub moments: Section,
+    /// Column strip, middle strip.
+    pub bars: Option<[Bars; 2]>,
 }
 
 pub struct Support {
@@ -37,22 +44,37 @@ pub struct Support {
 const TOP: &str = "top";
 const BOTTOM: &str = "bottom";
 
-/// Every x line, then every y line.
-pub fn frames(floor: &Floor, moments: &Moments) -> Vec<Frame> {
-    let lines = |way: Way| (0..way.lines(floor)).map(move |line| (way, line));
-    let all = lines(Way::X).chain(lines(Way::Y));
-    all.map(|(way, line)| frame(floor, moments, way, line))
-        .collect()
+/// What the library has of a clear floor.
+#[derive(Clone, Copy)]
+pub struct Found<'a> {
+    pub floor: &'a Floor,
+    pub moments: &'a Moments<'a>,
+    pub schedule: Option<&'a Schedule>,
 }
 
-fn frame(floor: &Floor, moments: &Moments, way: Way, line: usize) -> Frame {
-    let lengths = way.spans(floor);
-    let spans = lengths.iter().enumerate();
-    let supports = 0..=lengths.len();
+/// Every x line, then every y line.
+pub fn frames(found: Found) -> Vec<Frame> {
+    let lines = |way: Way| (0..way.lines(found.floor)).map(move |line| (way, line));
+    let all = lines(Way::X).chain(lines(Way::Y));
+    all.map(|(way, line)| frame(found, way, line)).collect()
+}
+
+fn frame(found: Found, way: Way, line: usize) -> Frame {
+    let Found {
+        floor,
+        moments,
+        schedule,
+    } = found;
+    let spans = way.spans(floor).len();
+    let supports = 0..=spans;
+    let name = name(floor, way, line);
+    let [low, high] = way.ends();
     Frame {
-        title: title(floor, way, line),
-        spans: spans
-            .map(|(number, &length)| span(moments, way, line, number, length))
+        title: format!("{name}: spans from {low} to {high}"),
+        name,
+        bar_heads: schedule.map_or(&[], |_| &BAR_HEADS),
+        spans: (0..spans)
+            .map(|number| span(found, way, line, number))
             .collect(),
         supports: supports
             .map(|number| Support {
@@ -65,7 +87,7 @@ fn frame(floor: &Floor, moments: &Moments, way: Way, line: usize) -> Frame {
     }
 }
 
-fn title(floor: &Floor, way: Way, line: usize) -> String {
+fn name(floor: &Floor, way: Way, line: usize) -> String {
     let last = way.lines(floor) - 1;
     let [first_edge, last_edge] = way.across().ends();
     let edge = match line {
@@ -73,30 +95,29 @@ fn title(floor: &Floor, way: Way, line: usize) -> String {
         line if line == last => format!(", {last_edge} edge"),
         _ => String::new(),
     };
-    let [low, high] = way.ends();
-    format!(
-        "{} line {line}{edge}: spans from {low} to {high}",
-        way.name()
-    )
+    format!("{} line {line}{edge}", way.name())
 }
 
-fn span(moments: &Moments, way: Way, line: usize, number: usize, length: u32) -> Span {
-    let found = moments.span(way, line, number);
-    let [low, between, high] = found.sections;
+fn span(found: Found, way: Way, line: usize, number: usize) -> Span {
+    let moments = found.moments.span(way, line, number);
+    let bars = found
+        .schedule
+        .map(|schedule| schedule.span(found.floor, way, line, number));
     let [from, to] = way.ends();
-    let row = |section: String, steel, moments| Row {
+    let row = |at: usize, section: String, steel| Row {
         section,
         steel,
-        moments,
+        moments: moments.sections[at],
+        bars: bars.map(|bars| bars[at]),
     };
     Span {
         number,
-        length,
-        whole: found.whole,
+        length: way.spans(found.floor)[number],
+        whole: moments.whole,
         rows: [
-            row(format!("{from} end"), TOP, low),
-            row("between".to_string(), BOTTOM, between),
-            row(format!("{to} end"), TOP, high),
+            row(0, format!("{from} end"), TOP),
+            row(1, "between".to_string(), BOTTOM),
+            row(2, format!("{to} end"), TOP),
         ],
     }
 }

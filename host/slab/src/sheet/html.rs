@@ -2,10 +2,15 @@
 
 use super::escape::escaped;
 use super::units::kn_m_of_n_cm;
-use super::{notes, Content, Frame, Sheet, Span, Support, BROKEN, CLEAR, PARTS, SUPPORTS, WHAT};
+use super::{
+    notes, spaced, Content, Frame, Row, Sheet, Span, Support, BROKEN, CLEAR, PARTS, SUPPORTS, WHAT,
+};
 use crate::judge::Section;
 
 const STYLE: &str = include_str!("../../../../web/style/sheet.css");
+
+/// Of a cell with bars.
+const BARS: &str = " class=\"bars\"";
 
 /// A whole page that needs nothing else.
 pub fn page(sheet: &Sheet) -> String {
@@ -24,17 +29,23 @@ fn article(sheet: &Sheet) -> String {
         element("p", "date", &sheet.date)
     );
     let (class, rest) = match &sheet.content {
-        Content::Clear { facts, frames } => ("clear", clear(facts, frames)),
+        Content::Clear {
+            facts,
+            unbarred,
+            frames,
+        } => ("clear", clear(facts, unbarred, frames)),
         Content::Broken(sentences) => ("broken", broken(sentences)),
     };
     format!("<article class=\"sheet {class}\">\n{head}{rest}</article>\n")
 }
 
-fn clear(facts: &str, frames: &[Frame]) -> String {
+fn clear(facts: &str, unbarred: &Option<String>, frames: &[Frame]) -> String {
+    let why = unbarred.iter().map(|why| element("p", "unbarred", why));
     let head = [
         element("p", "facts", facts),
         element("p", "standing", CLEAR),
-        element("p", "notes", &notes("")),
+        why.collect(),
+        element("p", "notes", &notes("", unbarred)),
     ];
     let frames: String = frames.iter().map(frame).collect();
     head.concat() + &frames
@@ -57,8 +68,8 @@ fn frame(frame: &Frame) -> String {
     let supports: String = frame.supports.iter().map(support).collect();
     let title = element("h2", "", &format!("{}, moments in kN·m", frame.title));
     let (span_heads, support_heads) = (
-        heads(&["span", "length, mm", "section", "steel"]),
-        heads(&["support", "at", "steel"]),
+        heads(&["span", "length, mm", "section", "steel"], frame.bar_heads),
+        heads(&["support", "at", "steel"], &[]),
     );
     let caption = element("caption", "", SUPPORTS);
     format!(
@@ -69,10 +80,11 @@ fn frame(frame: &Frame) -> String {
     )
 }
 
-fn heads(first: &[&str]) -> String {
-    let all = first.iter().chain(&PARTS);
-    let cells: String = all.map(|words| cell("th", "", words)).collect();
-    format!("<thead><tr>{cells}</tr></thead>\n")
+fn heads(first: &[&str], last: &[&str]) -> String {
+    let first = first.iter().chain(&PARTS);
+    let first: String = first.map(|words| cell("th", "", words)).collect();
+    let last: String = last.iter().map(|words| cell("th", BARS, words)).collect();
+    format!("<thead><tr>{first}{last}</tr></thead>\n")
 }
 
 /// Three rows, which the number and the length stand beside.
@@ -83,15 +95,16 @@ fn span(span: &Span) -> String {
     let before = [number + &length, String::new(), String::new()];
     let rows = span.rows.iter().zip(before);
     let rows: String = rows
-        .map(|(row, before)| {
-            let (section, steel) = (cell("td", "", &row.section), cell("td", "", row.steel));
-            format!(
-                "<tr>{before}{section}{steel}{}</tr>\n",
-                moments(row.moments)
-            )
-        })
+        .map(|(row, before)| format!("<tr>{before}{}</tr>\n", section(row)))
         .collect();
     format!("<tbody>\n{rows}</tbody>\n")
+}
+
+fn section(row: &Row) -> String {
+    let (section, steel) = (cell("td", "", &row.section), cell("td", "", row.steel));
+    let bars = row.bars.iter().flatten();
+    let bars: String = bars.map(|bars| cell("td", BARS, &spaced(bars))).collect();
+    format!("{section}{steel}{}{bars}", moments(row.moments))
 }
 
 fn support(support: &Support) -> String {

@@ -1,7 +1,9 @@
 //! The sheet as text, with the exact number beside each moment.
 
 use super::units::{kn_m_of_n_cm, kn_m_of_n_m};
-use super::{notes, Content, Frame, Sheet, Span, BROKEN, CLEAR, PARTS, SUPPORTS, WHAT};
+use super::{
+    notes, spaced, Content, Frame, Row, Sheet, Span, BROKEN, CLEAR, PARTS, SUPPORTS, WHAT,
+};
 use crate::judge::Section;
 
 pub fn text(sheet: &Sheet) -> String {
@@ -12,9 +14,14 @@ pub fn text(sheet: &Sheet) -> String {
     } = sheet;
     let mut lines = vec![name.clone(), date.clone()];
     match content {
-        Content::Clear { facts, frames } => {
-            let notes = notes(", and after each the exact number in N·cm");
-            lines.extend([facts.clone(), CLEAR.to_string(), notes]);
+        Content::Clear {
+            facts,
+            unbarred,
+            frames,
+        } => {
+            lines.extend([facts.clone(), CLEAR.to_string()]);
+            lines.extend(unbarred.clone());
+            lines.push(notes(", and after each the exact number in N·cm", unbarred));
             lines.extend(frames.iter().flat_map(frame));
         }
         Content::Broken(sentences) => {
@@ -28,16 +35,17 @@ pub fn text(sheet: &Sheet) -> String {
 
 fn frame(frame: &Frame) -> Vec<String> {
     let mut lines = vec![String::new(), frame.title.clone()];
-    lines.extend(frame.spans.iter().flat_map(span));
+    let spans = frame.spans.iter();
+    lines.extend(spans.flat_map(|one| span(one, frame.bar_heads)));
     lines.push(format!("  {SUPPORTS}"));
     lines.extend(frame.supports.iter().map(|support| {
         let place = format!("{:>2}  {}", support.number, support.at);
-        row(&place, support.steel, cells(support.moments))
+        row(&place, support.steel, &cells(support.moments))
     }));
     lines
 }
 
-fn span(span: &Span) -> Vec<String> {
+fn span(span: &Span, bar_heads: &[&str]) -> Vec<String> {
     let Span {
         number,
         length,
@@ -45,17 +53,22 @@ fn span(span: &Span) -> Vec<String> {
         rows,
     } = span;
     let static_moment = kn_m_of_n_m(*whole);
+    let heads = PARTS.iter().chain(bar_heads);
+    let heads: Vec<String> = heads.map(ToString::to_string).collect();
     let mut lines = vec![
         format!(
             "  span {number}, {length} mm, static moment {static_moment} kN·m, exactly {whole} N·m"
         ),
-        row("section", "steel", PARTS.map(str::to_string)),
+        row("section", "steel", &heads),
     ];
-    lines.extend(
-        rows.iter()
-            .map(|found| row(&found.section, found.steel, cells(found.moments))),
-    );
+    lines.extend(rows.iter().map(section));
     lines
+}
+
+fn section(found: &Row) -> String {
+    let bars = found.bars.iter().flatten().map(spaced);
+    let cells: Vec<String> = cells(found.moments).into_iter().chain(bars).collect();
+    row(&found.section, found.steel, &cells)
 }
 
 /// Wide enough for the largest number.
@@ -63,7 +76,7 @@ fn cells(moments: Section) -> [String; 5] {
     moments.map(|moment| format!("{:>8}  {moment}", kn_m_of_n_cm(moment)))
 }
 
-fn row(place: &str, steel: &str, cells: [String; 5]) -> String {
-    let cells = cells.map(|cell| format!("{cell:<22}"));
-    format!("    {place:<15}{steel:<8}{}", cells.concat())
+fn row(place: &str, steel: &str, cells: &[String]) -> String {
+    let cells: String = cells.iter().map(|cell| format!("{cell:<22}")).collect();
+    format!("    {place:<15}{steel:<8}{cells}")
 }

@@ -142,6 +142,20 @@ fn sheets_as_the_readme_has_them() {
     in_the_readme(broken.words());
 }
 
+#[test]
+fn the_schedule_as_the_readme_has_it() {
+    let listed = slab_on(&["schedule", "-"], &floor());
+    let frame = listed.words().split("\n\n").nth(1).expect("a frame");
+    let first: Vec<&str> = frame.lines().take(5).collect();
+    in_the_readme(&first.join("\n"));
+    let path = scratch("garage.bars of the readme");
+    let mut command = command(&["schedule", "example/garage.floor", "--out"]);
+    command.arg(&path).current_dir(root(""));
+    let told = Ran::from(command.output().unwrap());
+    let (count, _) = told.words().split_once(" written to ").unwrap();
+    in_the_readme(&format!("{count} written to garage.bars"));
+}
+
 /// The same places of a floor file and of its text.
 #[test]
 fn places_of_either_form() {

@@ -16,6 +16,8 @@ mod plain;
 mod reader;
 mod round_trip;
 mod run;
+mod schedule;
+mod schedule_refused;
 mod sheet;
 mod sheet_form;
 mod sheet_parts;

@@ -6,13 +6,19 @@ use crate::sheet_parts::{article, kn_m, of_page, of_text, pieces, sheet, Numbers
 use cases::floors::Described;
 use reference::floor_file::sizes;
 use reference::verdict::judge;
-use reference::{governing, table};
+use reference::{governing, schedule, table};
 use std::fs;
 
 fn right(file: &[u8]) -> Numbers {
     let table = table::numbers(file);
     let governing = governing::numbers(sizes(file), &table);
-    Numbers { table, governing }
+    let entries = schedule::entries(file).unwrap_or_default().into_iter();
+    let bars = entries.map(|entry| format!("{} @ {}", entry.diameter, entry.spacing));
+    Numbers {
+        table,
+        governing,
+        bars: bars.collect(),
+    }
 }
 
 /// Without the static moment that stands first in each record.
@@ -22,16 +28,27 @@ fn sections(table: &[u32]) -> Vec<String> {
 }
 
 fn expect_clear(description: &str, file: &[u8]) {
-    let Numbers { table, governing } = right(file);
+    let Numbers {
+        table,
+        governing,
+        bars,
+    } = right(file);
     let (text, page) = (sheet(&[], file), sheet(&["--html"], file));
     assert_eq!((text.status, page.status), (0, 0), "{description}");
     let said = of_text(text.words());
     assert_eq!(said.table, table, "{description}");
     assert_eq!(said.governing, governing, "{description}");
-    let page = page.words();
-    assert_eq!(of_page(page, "spans"), sections(&table), "{description}");
+    assert_eq!(said.bars, bars, "{description}");
+    let cells = |class, of_cells| of_page(page.words(), class, of_cells);
+    let sections = sections(&table);
+    assert_eq!(cells("spans", "moment"), sections, "{description}");
     let supports: Vec<String> = governing.into_iter().map(kn_m).collect();
-    assert_eq!(of_page(page, "supports"), supports, "{description}");
+    assert_eq!(cells("supports", "moment"), supports, "{description}");
+    assert_eq!(cells("spans", "bars"), bars, "{description}");
+    for words in [text.words(), page.words()] {
+        let unbarred = words.contains("No bars are shown. Refused 17: ");
+        assert_eq!(unbarred, bars.is_empty(), "{description}");
+    }
 }
 
 /// The sentences of what is broken, and no digit: not of a moment, not of anything else.

@@ -1,6 +1,7 @@
 //! What stands on a sheet beside the moments: its head, its tables, names that are no markup.
 
 use crate::run::{root, scratch, slab, slab_on};
+use crate::schedule::wide_beams;
 use crate::sheet_parts::{article, pieces, sheet};
 use floor::Floor;
 use slab::sheet::date::today;
@@ -18,14 +19,18 @@ const CLEAR: &str =
 const NOTES: &str = "Top and bottom say where in the slab the steel lies. \
                      Lines, spans and supports count from 0; x lines run west to east, y lines south to north. \
                      Column strip: beam and slab together.";
+const OF_BARS: &str =
+    "Bars: diameter @ spacing in mm; those of the column strip lie in its slab, beside the beam.";
 
+/// The slab of the column strip is 1,750 less 200 wide and the middle strip 3,250 less 1,750: 756·200/420,000 of 1,550 and of 1,500
+/// are 558 and 540 mm², which carry all but the last moment, for which 588 are needed. 79·1550/558 and 79·1500/540 are 219, 79·1500/588 is 201.
 const FIRST_SPAN: &str = "
 x line 0, south edge: spans from west to east
   span 0, 6600 mm, static moment 243.36 kN·m, exactly 243360 N·m
-    section        steel   total                 column strip          middle strip          beam                  slab of column strip
-    west end       top        38.94  3893760        34.36  3435853         4.58  457907         29.21  2920475         5.16  515378
-    between        bottom    138.72  13871520      107.83  10782332       30.90  3089188        91.65  9164982        16.18  1617350
-    east end       top       170.36  17035200      132.42  13241460       37.94  3793740       112.56  11255241       19.87  1986219
+    section        steel   total                 column strip          middle strip          beam                  slab of column strip  bars, column strip    bars, middle strip
+    west end       top        38.94  3893760        34.36  3435853         4.58  457907         29.21  2920475         5.16  515378      10 @ 210              10 @ 210
+    between        bottom    138.72  13871520      107.83  10782332       30.90  3089188        91.65  9164982        16.18  1617350     10 @ 210              10 @ 210
+    east end       top       170.36  17035200      132.42  13241460       37.94  3793740       112.56  11255241       19.87  1986219     10 @ 210              10 @ 200
   span 1, 7200 mm, ";
 
 #[test]
@@ -33,7 +38,7 @@ fn the_text_of_the_garage() {
     let ran = sheet(&[], &garage());
     let moments =
         "Moments in kN·m, rounded up to the next 0.01, and after each the exact number in N·cm.";
-    let head = format!("a floor\na day\n{FACTS}\n{CLEAR}\n{moments} {NOTES}\n");
+    let head = format!("a floor\na day\n{FACTS}\n{CLEAR}\n{moments} {NOTES} {OF_BARS}\n");
     assert!(
         ran.words().starts_with(&(head + FIRST_SPAN)),
         "{}",
@@ -49,10 +54,11 @@ const FIRST_ROWS: &str = "<section class=\"frame\">
 <h2>x line 0, south edge: spans from west to east, moments in kN·m</h2>
 <table class=\"spans\">
 <thead><tr><th>span</th><th>length, mm</th><th>section</th><th>steel</th><th>total</th><th>column strip</th><th>middle strip</th>\
-<th>beam</th><th>slab of column strip</th></tr></thead>
+<th>beam</th><th>slab of column strip</th><th class=\"bars\">bars, column strip</th><th class=\"bars\">bars, middle strip</th></tr></thead>
 <tbody>
 <tr><th rowspan=\"3\">0</th><td rowspan=\"3\">6600</td><td>west end</td><td>top</td><td class=\"moment\">38.94</td>\
-<td class=\"moment\">34.36</td><td class=\"moment\">4.58</td><td class=\"moment\">29.21</td><td class=\"moment\">5.16</td></tr>
+<td class=\"moment\">34.36</td><td class=\"moment\">4.58</td><td class=\"moment\">29.21</td><td class=\"moment\">5.16</td>\
+<td class=\"bars\">10 @ 210</td><td class=\"bars\">10 @ 210</td></tr>
 <tr><td>between</td><td>bottom</td><td class=\"moment\">138.72</td>";
 
 const FIRST_SUPPORTS: &str = "</tbody>
@@ -76,10 +82,36 @@ fn the_page_of_the_garage() {
         "<article class=\"sheet clear\">\n<div class=\"head\">\n<h1>a floor</h1>\n<p class=\"date\">a day</p>\n</div>\n\
          <p class=\"facts\">{FACTS}</p>\n\
          <p class=\"standing\">{CLEAR}</p>\n\
-         <p class=\"notes\">Moments in kN·m, rounded up to the next 0.01. {NOTES}</p>\n"
+         <p class=\"notes\">Moments in kN·m, rounded up to the next 0.01. {NOTES} {OF_BARS}</p>\n"
     );
     assert!(article(page).starts_with(&(head + FIRST_ROWS)), "{page}");
     assert!(page.contains(FIRST_SUPPORTS), "{page}");
+}
+
+const UNBARRED: &str = "No bars are shown. Refused 17: in some strip the beam leaves no width for bars, \
+                        or no steel area fits the moment, or no bar of 10, 12 or 16 mm allows a spacing.";
+
+/// Beams of 1,000 on spans of 2,000 leave nothing of the column strips inside. The moments stand.
+#[test]
+fn a_sheet_without_bars() {
+    let file = wide_beams(1_000).bytes();
+    let (text, page) = (sheet(&[], &file), sheet(&["--html"], &file));
+    assert_eq!((text.status, page.status), (0, 0));
+    let lines: Vec<&str> = text.words().lines().collect();
+    assert_eq!(lines[3..5], [CLEAR, UNBARRED]);
+    assert!(lines[5].ends_with(NOTES), "{}", lines[5]);
+    assert!(!text.words().contains('@') && !text.words().contains("bars, column strip"));
+    let page = article(page.words());
+    assert!(
+        page.contains(&format!(
+            "<p class=\"standing\">{CLEAR}</p>\n<p class=\"unbarred\">{UNBARRED}</p>\n<p class=\"notes\">"
+        )),
+        "{page}"
+    );
+    assert!(page.contains(&format!("{NOTES}</p>")), "{page}");
+    assert!(!page.contains('@') && !page.contains("\"bars\""));
+    let barred = sheet(&[], &wide_beams(900).bytes());
+    assert!(barred.words().contains("bars, middle strip") && !barred.words().contains(UNBARRED));
 }
 
 /// Edges by name, 5 by 4 bays: the y lines end at 5, the x lines at 4.

@@ -22,26 +22,33 @@ pub fn kn_m(n_cm: u32) -> String {
 pub struct Numbers {
     pub table: Vec<u32>,
     pub governing: Vec<u32>,
+    /// Of each section column strip, then middle strip: `10 @ 150`.
+    pub bars: Vec<String>,
 }
 
 /// Those of a text; each is held to the kN·m before it.
 pub fn of_text(words: &str) -> Numbers {
-    let (mut table, mut governing) = (Vec::new(), Vec::new());
+    let (mut table, mut governing, mut bars) = (Vec::new(), Vec::new(), Vec::new());
     for line in words.lines() {
         if let Some((_, whole)) = line.split_once(" kN·m, exactly ") {
             table.push(whole.strip_suffix(" N·m").unwrap().parse().unwrap());
-        } else if let Some((place, moments)) = row(line) {
+        } else if let Some((place, moments, beside)) = row(line) {
+            bars.extend(beside);
             match place.contains(" line ") {
                 true => governing.extend(moments),
                 false => table.extend(moments),
             }
         }
     }
-    Numbers { table, governing }
+    Numbers {
+        table,
+        governing,
+        bars,
+    }
 }
 
-/// What stands before top or bottom, and the five exact numbers after it.
-fn row(line: &str) -> Option<(&str, [u32; 5])> {
+/// What stands before top or bottom, the five exact numbers after it, and the bars after these.
+fn row(line: &str) -> Option<(&str, Vec<u32>, Vec<String>)> {
     let line = line.strip_prefix("    ")?;
     let (place, rest) = [" top ", " bottom "]
         .iter()
@@ -53,12 +60,14 @@ fn row(line: &str) -> Option<(&str, [u32; 5])> {
     };
     assert!(line.contains(right), "{line}");
     let words: Vec<&str> = rest.split_whitespace().collect();
-    let exact = words.chunks(2).map(|pair| {
+    let (moments, bars) = words.split_at(10);
+    let exact = moments.chunks(2).map(|pair| {
         let exact = pair[1].parse().unwrap();
         assert_eq!(pair[0], kn_m(exact), "{line}");
         exact
     });
-    Some((place, exact.collect::<Vec<u32>>().try_into().unwrap()))
+    let bars = bars.chunks(3).map(|three| three.join(" "));
+    Some((place, exact.collect(), bars.collect()))
 }
 
 /// Everything from the article's first tag to its last.
@@ -77,12 +86,13 @@ pub fn pieces(markup: &str) -> Vec<&str> {
     pieces
 }
 
-/// The moments of a page's tables of this class.
-pub fn of_page(page: &str, class: &str) -> Vec<String> {
+/// The cells of one class in a page's tables of another.
+pub fn of_page(page: &str, class: &str, of_cells: &str) -> Vec<String> {
     let start = format!("<table class=\"{class}\">");
     let tables = page.split(&start).skip(1);
     let tables = tables.map(|rest| rest.split("</table>").next().unwrap());
-    let cells = tables.flat_map(|table| table.split("<td class=\"moment\">").skip(1));
+    let cell = format!("<td class=\"{of_cells}\">");
+    let cells = tables.flat_map(|table| table.split(&cell).skip(1));
     cells
         .map(|rest| rest.split("</td>").next().unwrap().to_string())
         .collect()
