@@ -17,7 +17,7 @@
 #include <stdint.h>
 
 /* Rises by 1 with each change of what is declared here and each change of an answer. docs/CHANGES.md says what a caller must do. */
-#define GANDHRUMIL_VERSION 7
+#define GANDHRUMIL_VERSION 8
 
 /* A call uses less than GANDHRUMIL_STACK bytes of stack. Measured on floors of 12 by 12 bays, clear and not, on aarch64,
  * gandhrumil_schedule, which holds a table of its own, uses less than 22 KiB, and every other call less than 7 KiB, in version 1 on
@@ -104,7 +104,8 @@ gandhrumil_answer gandhrumil_clear(const uint8_t *floor, size_t floor_len);
 gandhrumil_answer gandhrumil_places(const uint8_t *floor, size_t floor_len, uint32_t *places, size_t places_len);
 
 /* The least whole area of steel in mm2 for the moment m, 0 to 2,000,000,000 N.cm, on a width b, 1 to 12,000 mm, of a slab of thickness t, 90 to
- * 500 mm, at the effective depth d, 50 to t - 25 mm, or 0 for t - 26; concrete fc, 20 to 60 MPa, steel fy, 280, 420 or 520 MPa.
+ * 500 mm, at the effective depth d, 50 to t - 25 mm, or 0 for t - 38; concrete fc, 20 to 60 MPa, steel fy, 280, 420 or 520 MPa. t - 38 is the depth
+ * of the second of two layers of bars; for the first layer, next to the face of the slab, pass t - 26.
  * 11 where a value is out of range, then 12 where no area carries the moment within the steel limits; 0 mm2 where refused. */
 gandhrumil_answer gandhrumil_steel(uint64_t m, uint64_t b, uint64_t t, uint64_t d, uint64_t fc, uint64_t fy);
 
@@ -113,7 +114,8 @@ gandhrumil_answer gandhrumil_steel(uint64_t m, uint64_t b, uint64_t t, uint64_t 
  *   the record's number in the table; section, 0 low end, 1 between, 2 high end; strip, 0 column strip, 1 middle strip
  *   the strip's width in mm: of the column strip without the beam, on an outer line without half of it, rounded up
  *   the moment in N.cm that gandhrumil_open has there: the slab part of the column strip, the middle part of the middle strip
- *   the area of steel in mm2 that gandhrumil_steel answers for that moment and width, with the floor's t, fc and fy, and d = 0
+ *   the area of steel in mm2 that gandhrumil_steel answers for that moment and width, with the floor's t, fc and fy, and with d = t - 26 in
+ *     records of x frames, d = 0 in those of y frames: bars along x lie next to the face, at top and bottom, bars along y inside them
  *   the diameter of the bars in mm, 10, 12 or 16, of 79, 113 and 201 mm2, and their spacing in mm: the largest multiple of 10, from 80 to 2 * t, for
  *     which bar area * width is at least area * spacing; the smallest bar that allows one is taken
  * The order is the table's record, then section, then strip. Tries 1 to 7, 16, 15, then 17. Bytes past the schedule are left alone; a refusal writes

@@ -1,13 +1,15 @@
-// The bar schedule: the garage's first span worked out by hand, whole files against `slab schedule`, and each frame's bars read from their places.
+// The bar schedule: a span of the garage in each direction worked out by hand, whole files against `slab schedule`, each frame's bars read from their
+// places, and the depths that are said beside the areas.
 
 import assert from 'node:assert/strict';
 import { existsSync, mkdtempSync, readFileSync, rmSync } from 'node:fs';
 import { tmpdir } from 'node:os';
 import { join } from 'node:path';
 import { after, test } from 'node:test';
-import { bytesOf, floorOf, WAYS } from '../src/floor.js';
+import { across, bytesOf, floorOf, WAYS } from '../src/floor.js';
 import { opened } from '../src/judge.js';
 import { Library } from '../src/library.js';
+import { barDepth, sayLayer, sayLayers } from '../src/say/depths.js';
 import { frameBars, sayBars, STRIPS } from '../src/schedule.js';
 import { sumOfSides } from '../src/sides.js';
 import { linesOf, SECTIONS } from '../src/table.js';
@@ -18,6 +20,7 @@ import { slab } from './slab.js';
 /** @typedef {import('../src/judge.js').Judged} Judged */
 
 const DRAWN_FLOORS = 400;
+const MEASURED_FLOORS = 150;
 
 const root = new URL('../../', import.meta.url);
 const module = new URL('target/page/gandhrumil.wasm', root);
@@ -66,7 +69,7 @@ function slabSchedule(bytes) {
 }
 
 /*
- * x line 0, x span 0 of the garage. docs/RULES.md, section 13, has W 3,250, wc 1,750 and the moments; the beam on that outer line is 400 wide, so
+ * x line 0, x span 0 of the garage. docs/RULES.md, section 14, has W 3,250, wc 1,750 and the moments; the beam on that outer line is 400 wide, so
  * that the strips are 1750 − 200 = 1,550 and 3250 − 1750 = 1,500 wide. The least areas are 756·1550·200/420000 = 558 and
  * 756·1500·200/420000 = 540, which carry every moment but the last: for 3,793,740 N·cm, 9·As·420·(17·30·1500·174 − 4200·As) must reach
  * 1700·30·1500·3793740 = 290,221,110,000,000; As 587 gives 289,882,077,156,000 and As 588 gives 290,366,578,656,000. With bars of 79 mm²,
@@ -81,10 +84,29 @@ const FIRST_SPAN = [
     [0, 2, 1, 1500, 3793740, 588, 10, 200],
 ];
 
-test('the first span of the garage has the bars that are worked out by hand', () => {
+/*
+ * y line 0, y span 0, record 25 after the 25 of the x lines; example/garage.sheet has its moments. W is (6600 + 600)/2 = 3,600 and wc
+ * 6000/4 + 600/2 = 1,800; the beam on that outer line too is 400 wide, so that the strips are 1,600 and 1,800 wide. The least areas are
+ * 756·1600·200/420000 = 576 and 756·1800·200/420000 = 648. These bars lie at 200 − 38 = 162, where the least areas carry every moment but the
+ * last: for 4,439,636 N·cm, 9·As·420·(17·30·1800·162 − 4200·As) must reach 1700·30·1800·4439636 = 407,558,584,800,000; As 740 gives
+ * 407,294,697,600,000 and As 741 gives 407,833,331,724,000. With bars of 79 mm², 79·1600/576 = 219.4, 79·1800/648 = 219.4 and
+ * 79·1800/741 = 191.9. At 174 the last would be 688 mm², 10 @ 200.
+ */
+const FIRST_SPAN_ALONG_Y = [
+    [25, 0, 0, 1600, 470565, 576, 10, 210],
+    [25, 0, 1, 1800, 487092, 648, 10, 210],
+    [25, 1, 0, 1600, 1394408, 576, 10, 210],
+    [25, 1, 1, 1800, 3615132, 648, 10, 210],
+    [25, 2, 0, 1600, 1712431, 576, 10, 210],
+    [25, 2, 1, 1800, 4439636, 741, 10, 190],
+];
+
+test('the first span of the garage in each direction has the bars that are worked out by hand', () => {
     const { schedule } = judgedFloor(GARAGE);
     assert.equal(schedule.refusal, 0);
-    assert.deepEqual(entriesOf(schedule.bytes).slice(0, 6), FIRST_SPAN);
+    const entries = entriesOf(schedule.bytes);
+    assert.deepEqual(entries.slice(0, 6), FIRST_SPAN);
+    assert.deepEqual(entries.slice(150, 156), FIRST_SPAN_ALONG_Y);
 });
 
 test('the garage has six records for each of the sheet\'s, with its moments, in order', () => {
@@ -161,4 +183,37 @@ test('the frames, one after the other, have the bars of the records in their ord
         assert.deepEqual(read, entries);
         assert.ok(new Set(read.map(sayBars)).size > 1, 'bars that differ');
     }
+});
+
+test('what is said of the layers has the depths of the slab, the thinnest and the thickest too', () => {
+    const said = 'At top and bottom, bars along x lie next to the face of the slab, at an effective depth of 174 mm, and bars along y inside them, at 162 mm.';
+    assert.equal(sayLayers({ t: 200 }), said);
+    assert.equal(sayLayers({ t: 90 }), said.replace('174', '64').replace('162', '52'));
+    assert.equal(sayLayers({ t: 500 }), said.replace('174', '474').replace('162', '462'));
+    assert.equal(sayLayer('x', 174), 'Bars at an effective depth of 174 mm, next to the face of the slab.');
+    assert.equal(sayLayer('y', 162), 'Bars at an effective depth of 162 mm, inside the bars along x.');
+});
+
+test('every area is the steel answer at the depth that is said of its direction', () => {
+    const draw = new Draw(6);
+    // Areas that would be others at the depth of the other direction.
+    const telling = { x: 0, y: 0 };
+    for (let left = MEASURED_FLOORS; left > 0; left -= 1) {
+        const { floor, schedule } = judgedFloor(bytesOf(drawAlike(draw)));
+        const { t, fc, fy, spans } = floor;
+        for (const [record, , , b, m, area] of entriesOf(schedule.bytes)) {
+            const way = record < (spans.y.length + 1) * spans.x.length ? 'x' : 'y';
+            const [here, there] = [way, across(way)].map((along) => library.steel({ m, b, t, d: barDepth(floor, along), fc, fy }));
+            assert.deepEqual(here, { refusal: 0, value: area });
+            telling[way] += Number(there.value !== area);
+        }
+    }
+    assert.ok(telling.x > 200 && telling.y > 200, JSON.stringify(telling));
+});
+
+test('a steel query at d = 0 is one at the depth of the bars along y', () => {
+    const query = { m: 2195000, b: 1000, t: 150, fc: 30, fy: 420 };
+    // 9·As·420·(17·30·1000·112 − 4200·As) reaches 1700·30·1000·2195000 = 111,945,000,000,000 with As 540, and not with 539.
+    assert.deepEqual([0, barDepth({ t: 150 }, 'y')].map((d) => library.steel({ ...query, d }).value), [540, 540]);
+    assert.equal(library.steel({ ...query, d: barDepth({ t: 150 }, 'x') }).value, 484);
 });

@@ -118,9 +118,9 @@ module _ (f : List ℕ) (slab : Slab) (t : List ℕ) (k : ℕ) (h : AtRecord f s
 
     pub span-is : {line : LineView} {l1 strip width : ℕ} {numbers : List ℕ} → line ≡ lineView f (p .way) (p .line) → l1 ≡ span f (p .way) (p .span)
         → numbers ≡ take recordWidth (drop (k * recordWidth) t) → strip ≡ columnStripWidth (line .outer) l1 (line .below) (line .above) (line .across) → width ≡ widthOf line
-        → record { numbers = numbers; outer = line .outer; beam = line .width; strip = strip; width = width } ≡ spanAt f k
+        → record { numbers = numbers; way = p .way; outer = line .outer; beam = line .width; strip = strip; width = width } ≡ spanAt f k
     unfolding spanAt
-    span-is q el en es ew = rw (en ∙ numbers-are, es, ew, line-at q, length-at el)
+    span-is q el en es ew = rw (en ∙ numbers-are, es, ew, line-at q, length-at el, ap (λ (x : Found). x .way) at-place)
 
 -- numbers in the place of as many others
 pub filled : (z x : List ℕ) → length z ≡ length x → paste z 0 x (length x) ≡ x

@@ -1,4 +1,4 @@
-// One span of a floor whose moments stand, from a table that has them: the numbers of its record, and the widths across its line.
+// One span of a floor whose moments stand, from a table that has them: the numbers of its record, the direction of its frame, and the widths across its line.
 ghost use mathlib.Core.Path.{_≡_};
 ghost use lib.ListN.{drop, take};
 ghost use Prim.Native.Nat.{_+_, _*_};
@@ -10,6 +10,7 @@ use layouts::outer_line;
 use lines::line::below;
 use lines::slab::Slab;
 use plan::read;
+use plan::ways::Way;
 use plan::ways::across;
 use plan::ways::pick;
 use stiffness::line::column_strip_width;
@@ -18,9 +19,10 @@ use tables::places::place_of;
 use tables::write::WIDTH;
 use tables::write::write_at;
 
-// The numbers of its record; whether its line is an outer one, and the width of the beam there, 0 where there is none; wc and W.
+// The numbers of its record; the direction; whether its line is an outer one, and the width of the beam there, 0 where there is none; wc and W.
 pub struct Span {
     pub numbers: [u32; WIDTH],
+    pub way: Way,
     pub outer: bool,
     pub beam: u32,
     pub strip: u64,
@@ -53,6 +55,7 @@ pub fn span_at(f: &[u8], slab: Slab, table: &[u32], k: u32) -> Span
     let l1 = read::span(f, slab.bays, d, p.span) as u64;
     Span {
         numbers: numbers_of(table, k),
+        way: d,
         outer,
         beam: read::beam_width(f, slab.bays, d, l),
         strip: column_strip_width(outer, l1, low, high, column),

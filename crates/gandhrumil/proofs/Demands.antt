@@ -44,7 +44,7 @@ use Rattle.moments.proofs.Governed.{agrees-at, by-zeros}
 use Rattle.moments.proofs.Demand.{taken-of, morning, at-its-end}
 use Rattle.steel.specs.Strips.{strips, byStrip, momentNumber, stripMoment}
 use Rattle.steel.proofs.Answers.{steel-answer}
-use Rattle.steel.proofs.Inside.{in-range}
+use Rattle.steel.proofs.Inside.{in-range, layers}
 use Rattle.steel.proofs.Lacking.{seventeen}
 use Rattle.steel.proofs.Meaning as schedules
 use Rattle.steel.proofs.Meaning.{schedule-answer}
@@ -209,6 +209,7 @@ demand-two =
       suffices = λ {f = f} p h. given _ f .0 (places.never-short f p h);
       moments = scheduled-moments;
       inside = λ f g c k q below wide. let e = given 0 f .1 g in in-range f e (clear-is (broken f e) .1 c) below q wide;
+      layers = λ f g. layers f (given 0 f .1 g);
       seventeen = λ {f = f} g c room p. let e = given 0 f .1 g in seventeen f e (clear-is (broken f e) .1 c) room p;
       schedule-suffices = schedules.never-short;
       steel = λ q h. let s = steel-answer q in

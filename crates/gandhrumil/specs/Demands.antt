@@ -5,7 +5,7 @@
 -- order tried, `Broken`, `Clear`, `Places`, `PanelEnough`, `Fits`, `rightNumber`, the number that the rules give, `GoverningAt`, the five of a support, and `ScheduleOf`, the
 -- records of the schedule.
 -- Assumes nothing.
-use Prim.Native.Nat.{ℕ, _+_, _*_, _≤_, _<_}
+use Prim.Native.Nat.{ℕ, _+_, _-_, _*_, _≤_, _<_}
 use mathlib.Core.List.{List}
 use mathlib.Core.Logic.{_↔_}
 use mathlib.Core.Path.{_≡_}
@@ -21,9 +21,10 @@ use Rattle.clear.specs.Answers.{clearOf, ClearAnswer}
 use Rattle.broken.specs.Meaning.{PlaceList, Places, limitsListed}
 use Rattle.broken.specs.Answers.{placesMost, Placed, PlacesAnswer}
 use Rattle.tables.specs.Width.{recordWidth}
-use Rattle.tables.specs.Places.{Place, Inside, recordCount}
+use Rattle.tables.specs.Places.{Place, Inside, recordCount, placeOf}
 use Rattle.frames.specs.Spans.{spanAt}
-use Rattle.plan.specs.Plan.{baysOf}
+use Rattle.plan.specs.Ways.{pick}
+use Rattle.plan.specs.Plan.{baysOf, thickness}
 use Rattle.supports.specs.Governing.{supportWidth, fiveFrom, supportNumber}
 use Rattle.supports.specs.Meaning.{GoverningAt}
 use Rattle.moments.specs.Lent.{Lent}
@@ -33,7 +34,7 @@ use Rattle.moments.specs.Changing.{Changed}
 use Rattle.moments.specs.Meaning.{GivenOpening, GivenChanging, Earned, numberIn, rightNumber, AddsUp, governingIn, Supported, Agrees, GoverningOf, LentNamed}
 use Rattle.moments.specs.Mornings.{Morning, standing, Held}
 use Rattle.steel.specs.declared.query.Query.{Query}
-use Rattle.steel.specs.Query.{InRange}
+use Rattle.steel.specs.Query.{InRange, depthOf}
 use Rattle.steel.specs.Area.{Fits}
 use Rattle.steel.specs.Steel.{SteelAnswer, steelOf}
 use Rattle.steel.specs.Strips.{strips, stripWidth, momentNumber, stripMoment}
@@ -92,6 +93,8 @@ pub record DemandTwo : Type 0 where
   -- 02, Five: "as 01 works them out for this floor": the moment of each record is the number that opening puts into the table
   pub moments : {f : List ℕ} {l l′ : Lent} {a : Answer} → Opened f l a l′ → a .refusal ≡ 0 → a .value ≡ 0
       → (k q : ℕ) → k < recordCount f → q < strips → stripMoment (spanAt f k) q ≡ getD (l′ .table) (k * recordWidth + momentNumber q) 0
+  -- 02, Six: the area is worked out at t − 26 in x frames, and in y frames, whose bars lie on the x bars, at t − 38
+  pub layers : (f : List ℕ) → Given 0 f → (k q : ℕ) → depthOf (queryIn f k q) ≡ pick (placeOf f k .way) (thickness f - 26) (thickness f - 38)
   -- the schedule's queries are in range, so that 11 cannot arise inside
   pub inside : (f : List ℕ) → Given 0 f → Clear f → (k q : ℕ) → k < recordCount f → 0 < stripWidth (spanAt f k) q → InRange (queryIn f k q)
   -- so 17 is given, of a clear floor with room for its schedule, exactly where some strip has "a strip width of 0 or less, no steel area that fits, or no bar that

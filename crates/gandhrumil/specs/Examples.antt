@@ -113,6 +113,10 @@ secondStrip = 0 ∷ 0 ∷ 1 ∷ 1500 ∷ 457907 ∷ 540 ∷ 10 ∷ 210 ∷ []
 abbrev pub sixthStrip : List ℕ
 sixthStrip = 0 ∷ 2 ∷ 1 ∷ 1500 ∷ 3793740 ∷ 588 ∷ 10 ∷ 200 ∷ []
 
+-- and that of the first span of the western frame, record 25, along y: at the depth t − 38 of the second layer; in the first, 688 mm² would do, at 200 (02, Six)
+abbrev pub acrossStrip : List ℕ
+acrossStrip = 25 ∷ 2 ∷ 1 ∷ 1800 ∷ 4439636 ∷ 741 ∷ 10 ∷ 190 ∷ []
+
 pub record Examples : Type 0 where
   pub one-bay : Example oneBay 1
   pub five-by-four : Example garage 0
@@ -129,9 +133,9 @@ pub record Examples : Type 0 where
   pub garage-places : {t t′ : List ℕ} {a : Answer} → Placed garage t a t′ → (a ≡ answer 0 0) × (t′ ≡ t)
   pub moved-places : {t t′ : List ℕ} {a : Answer} → Placed moved t a t′ → 16 ≤ length t
       → (a ≡ answer 0 4) × (t′ ≡ 4 ∷ 0 ∷ 2 ∷ 0 ∷ 64 ∷ 0 ∷ 2 ∷ 1 ∷ 64 ∷ 0 ∷ 2 ∷ 2 ∷ 64 ∷ 0 ∷ 2 ∷ 3 ∷ drop 16 t)
-  -- the garage's 49 records have 294 in the schedule, 9,408 bytes; three of the first six are these; a shorter buffer is refused 15
+  -- the garage's 49 records have 294 in the schedule, 9,408 bytes; records 0, 1, 5 and 155 are these; a shorter buffer is refused 15
   pub garage-schedule : {t t′ : List ℕ} {a : Answer} → Scheduled garage t a t′ → 9408 ≤ length t
-      → (a ≡ answer 0 294) × ((n : ℕ) → n < entryNumbers → (le32 t′ (n * 4) ≡ getD firstStrip n 0) × (le32 t′ (32 + n * 4) ≡ getD secondStrip n 0) × (le32 t′ (160 + n * 4) ≡ getD sixthStrip n 0))
+      → (a ≡ answer 0 294) × ((n : ℕ) → n < entryNumbers → (le32 t′ (n * 4) ≡ getD firstStrip n 0) × (le32 t′ (32 + n * 4) ≡ getD secondStrip n 0) × (le32 t′ (160 + n * 4) ≡ getD sixthStrip n 0) × (le32 t′ (4960 + n * 4) ≡ getD acrossStrip n 0))
   pub garage-short : {t t′ : List ℕ} {a : Answer} → Scheduled garage t a t′ → length t < 9408 → (a ≡ answer 15 0) × (t′ ≡ t)
   -- the moved one is not clear: refused 16, however long the buffer is
   pub moved-schedule : {t t′ : List ℕ} {a : Answer} → Scheduled moved t a t′ → (a ≡ answer 16 0) × (t′ ≡ t)

@@ -1,5 +1,6 @@
--- "Figures to hold it against": those marked *, of every layer, as one table. α is 01's worked again as 02, Two, asks, with two more of it, and the least
--- thicknesses at an edge are those that 02, Three, asks: docs/FIGURES.md has each by hand. proofs/FiguresHold computes them under one claim.
+-- "Figures to hold it against": those marked *, of every layer, as one table. α is 01's worked again as 02, Two, asks, with two more of it; the least
+-- thicknesses at an edge are those that 02, Three, asks, and the two areas at d = 0 those that 02, Six, asks: docs/FIGURES.md has each by hand.
+-- proofs/FiguresHold computes them under one claim.
 -- Assumes nothing.
 use mathlib.Core.Bool.{true, false}
 use mathlib.Core.List.{List, [], _∷_}
@@ -25,9 +26,9 @@ use Rattle.steel.specs.Steel.{steelOf}
 abbrev strips : Strips
 strips = split 38290000 (columnStrip 38290000 8131) 10000
 
--- "b 1,000, t 150, d 124, fc 30, fy 420"; neither is refused, since "refused queries answer 0 mm or 0 mm²"
-abbrev area : ℕ → ℕ
-area M = steelOf (queryOf M 1000 150 124 30 420) .value
+-- "b 1,000, .. fc 30, fy 420"; none is refused, since "refused queries answer 0 mm or 0 mm²"
+abbrev area : ℕ → ℕ → ℕ → ℕ
+area M t d = steelOf (queryOf M 1000 t d 30 420) .value
 
 -- "fy 420", beams everywhere
 abbrev panel : ℕ → ℕ → ℕ → Panel
@@ -92,6 +93,8 @@ figures =
     ∷ figure "least thickness, fy 420: 6,300, edge beams only, α 8,000" (edgeOnly 8000 420) 191
     ∷ figure "least thickness, fy 520: 6,300, edge beams only, α 7,999" (edgeOnly 7999 520) 225
     ∷ figure "least thickness, fy 520: 6,300, edge beams only, α 8,000" (edgeOnly 8000 520) 204
-    ∷ figure "As of M 2,195,000, b 1,000, t 150, d 124, fc 30, fy 420" (area 2195000) 484
-    ∷ figure "As of M 0" (area 0) 270
+    ∷ figure "As of M 2,195,000, b 1,000, t 150, d 124, fc 30, fy 420" (area 2195000 150 124) 484
+    ∷ figure "As of M 0" (area 0 150 124) 270
+    ∷ figure "As of M 2,195,000, t 150, d 0, which stands for 112" (area 2195000 150 0) 540
+    ∷ figure "As of M 500,000, t 90, d 0, which stands for 52" (area 500000 90 0) 266
     ∷ []

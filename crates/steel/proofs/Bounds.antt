@@ -46,7 +46,7 @@ module _ {q : Query} (r : InRange q) where
   strain-is As = at-most (51 * K (q .fc) * q .fc * q .b * depthOf q) 224000 As (q .fy) (pos-of (# 224000 ⊗ grade-range r .0) tt)
 
   -- an area within the strain limit is at most half of the one at the parabola's top, which is half of what makes 01's brackets 0
-  left-of-top : (As : ℕ) → Strain q As → 40 * As * q .fy ≤ 17 * q .fc * q .b * depthOf q
+  pub left-of-top : (As : ℕ) → Strain q As → 40 * As * q .fy ≤ 17 * q .fc * q .b * depthOf q
   left-of-top As h = omega (arith, h, # 51 ⊗ k-most (q .fc) ⊗ # (q .fc) ⊗ # (q .b) ⊗ # (depthOf q))
 
   -- what 01 asks of an area is that it lies within the limits

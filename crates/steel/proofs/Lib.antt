@@ -13,3 +13,4 @@ pub mod Strips
 pub mod Meaning
 pub mod Inside
 pub mod Lacking
+pub mod AsBefore

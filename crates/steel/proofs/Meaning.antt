@@ -39,7 +39,7 @@ use Rattle.bars.proofs.Bytes.{reads-back}
 use Rattle.frames.specs.Spans.{spanAt}
 use Rattle.steel.specs.declared.strip.Reinforcement.{Reinforcement}
 use Rattle.steel.specs.Strips.{strips, spanNumbers, spanBytes, materialsOf, entryOf, stripBytes}
-use Rattle.steel.specs.Barred.{AllBarred, queryIn}
+use Rattle.steel.specs.Barred.{StripSteel, AllBarred, queryIn}
 use Rattle.steel.specs.Schedule.{scheduleCount, scheduleLength, entryIn, allBarred, scheduleBytes, scheduled, scheduleChecks, scheduleNumber, scheduleAnswer, Scheduled}
 use Rattle.steel.specs.Meaning.{steelIn, EntrySays, byteAt, WrittenAt, ScheduleOf, ScheduleAnswer, scheduleMost, roomyChecks}
 use Rattle.steel.proofs.Strips.{steel-some, steel-one, says-steel}
@@ -53,11 +53,10 @@ says-barred f = says-all (recordCount f) (λ k. says-all strips (λ q. says-stee
 
 -- ---- one record
 
-entry-is : (f : List ℕ) → AllBarred f → {k q : ℕ} → k < recordCount f → q < strips → EntrySays f k q (entryIn f k q)
+pub entry-is : (f : List ℕ) {k q : ℕ} {r : Reinforcement} → StripSteel (queryIn f k q) r → EntrySays f k q (entryIn f k q)
 unfolding entryIn entryOf
-entry-is f h {k} {q} hk hq =
-    let s = h k hk q hq in
-    record { number = refl; section = refl; strip = refl; width = refl; moment = refl; steel = rw (steel-some (queryIn f k q) (s .1)) at (s .1) }
+entry-is f {k} {q} s =
+    record { number = refl; section = refl; strip = refl; width = refl; moment = refl; steel = rw (steel-some (queryIn f k q) s) at s }
 
 pub entry-one : (f : List ℕ) {k q : ℕ} {e x : Entry} → EntrySays f k q e → EntrySays f k q x → e ≡ x
 entry-one f {k} {q} {e} {x} p r =
@@ -116,7 +115,7 @@ module _ (f : List ℕ) where
         record {
           same-length = length-written numberBytes every (scheduleBytes f) full (recordCount f * spanNumbers) t whole;
           past = λ i h. written-past numberBytes every (scheduleBytes f) full (recordCount f * spanNumbers) t whole i (omega (arith, h));
-          entries = λ k q hk hq. (entryIn f k q, entry-is f h hk hq, written-in k q hk hq);
+          entries = λ k q hk hq. (entryIn f k q, entry-is f (h k hk q hq .1), written-in k q hk hq);
         }
 
   pub schedule-of-one : {t u v : List ℕ} → ScheduleOf f t u → ScheduleOf f t v → u ≡ v

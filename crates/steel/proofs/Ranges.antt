@@ -5,6 +5,7 @@ use mathlib.Core.Logic.{⊎-elim}
 use native.Mathlib.Omega.{arith}
 use Rattle.numbers.specs.Tests.{Says}
 use Rattle.numbers.proofs.Tests.{says-eq, says-le, says-and, says-or, says-as, by-test}
+use Rattle.records.specs.Meaning.{In}
 use Rattle.records.proofs.Meaning.{says-within, says-materials}
 use Rattle.steel.specs.declared.query.Query.{Query}
 use Rattle.steel.specs.Query.{InRange, depthOf, depthListed, inRange}
@@ -31,8 +32,12 @@ module _ {q : Query} (r : InRange q) where
   pub grade-range : (280 ≤ q .fy) × (q .fy ≤ 520)
   grade-range = ⊎-elim (λ e. omega arith) (⊎-elim (λ e. omega arith) (λ e. omega arith)) (r .materials .1)
 
-  pub depth-range : (50 ≤ depthOf q) × (depthOf q ≤ 475)
+  -- 02, Six: "At t = 90 the default is 52, still in range"
+  pub depth-in : In 50 (q .t - 25) (depthOf q)
   unfolding depthOf
-  depth-range =
-      by-test (λ n. (50 ≤ n) × (n ≤ 475)) (says-eq (q .d) 0) (λ e. (omega arith, omega arith))
-      (λ n. ⊎-elim (λ h. (h .0, omega arith)) (λ e. absurd (n e)) (r .depth))
+  depth-in =
+      by-test (In 50 (q .t - 25)) (says-eq (q .d) 0) (λ e. (omega (arith, r .thickness), omega (arith, r .thickness)))
+      (λ n. ⊎-elim (λ h. h) (λ e. absurd (n e)) (r .depth))
+
+  pub depth-range : (50 ≤ depthOf q) × (depthOf q ≤ 475)
+  depth-range = (depth-in .0, omega (arith, depth-in .1, r .thickness))

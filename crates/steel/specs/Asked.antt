@@ -17,7 +17,7 @@ use Rattle.frames.specs.Asked.{Standing}
 use Rattle.frames.specs.declared.span.Span.{Span}
 use Rattle.steel.specs.declared.search.Limits.{Limits}
 use Rattle.steel.specs.declared.strip.Materials.{Materials}
-use Rattle.steel.specs.Strips.{strips, spanBytes, materialsOf, spanBarred}
+use Rattle.steel.specs.Strips.{strips, spanBytes, stripMoment, materialsOf, spanBarred}
 use Rattle.steel.specs.Schedule.{scheduleLength, allBarred}
 
 -- for the search: every area up to the largest lies left of the parabola's top, where the tangent still rises; and each product fits 64 bits
@@ -28,11 +28,12 @@ pub record Searchable (l : Limits) : Type 0 where
   pub heaviest : l .load ≤ 2448000000000000000
   pub short : l .most < 2 ^ 32
 
--- one of the six strips of a span, none wider than a frame
-pub record InSpan (s : Span) (q : ℕ) : Type 0 where
+-- one of the six strips of a span, none wider than a frame, with its moment
+pub record InSpan (s : Span) (q moment : ℕ) : Type 0 where
   pub strip : s .strip ≤ 12000
   pub width : s .width ≤ 12000
   pub six : q < strips
+  pub moment-is : moment ≡ stripMoment s q
 
 -- the strips of span k, with room for their records; none is written before all are known to have bars
 pub record Laying (out : List ℕ) (s : Span) (m : Materials) (k : ℕ) (store : Bool) : Type 0 where

@@ -1,5 +1,5 @@
--- 02, Five: what is asked of the steel of a strip, and what it is to lack it, in its words. Where a strip has such steel, `reinforcementOf` gives it, and nothing
--- else is such steel (proofs/Strips); where it has none, it lacks it for one of 02's three reasons (proofs/Lacking).
+-- 02, Five as amended by Six: what is asked of the steel of a strip, and what it is to lack it, in its words. Where a strip has such steel, `reinforcementOf`
+-- gives it, and nothing else is such steel (proofs/Strips); where it has none, it lacks it for one of 02's three reasons (proofs/Lacking).
 -- Assumes nothing.
 use Prim.Native.Nat.{ℕ, _<_}
 use mathlib.Core.List.{List}
@@ -17,8 +17,8 @@ use Rattle.steel.specs.Area.{Fits}
 use Rattle.steel.specs.Steel.{SteelAnswer}
 use Rattle.steel.specs.Strips.{strips, materialsOf, stripQuery}
 
--- something is left of the strip; "The area is the steel answer for that moment and width at d = 0"; "The smallest bar that allows a spacing is taken", with
--- the largest spacing that it allows
+-- something is left of the strip; "The area is the steel answer for that moment and width", at the query's depth; "The smallest bar that allows a spacing is
+-- taken", with the largest spacing that it allows
 pub record StripSteel (query : Query) (r : Reinforcement) : Type 0 where
   pub wide : 0 < query .b
   pub area : SteelAnswer query (answer 0 (r .area))

@@ -22,9 +22,9 @@ pub record InRange (q : Query) : Type 0 where
   pub depth : In 50 (q .t - 25) (q .d) ⊎ (q .d ≡ 0)
   pub materials : Materials (q .fc) (q .fy)
 
--- "d = 0 stands for t − 26"
+-- 02, Six: "From now on 0 stands for t − 38, the second layer of document 002"
 unfoldable pub depthOf : Query → ℕ
-depthOf q = cond (eqb (q .d) 0) (q .t - 26) (q .d)
+depthOf q = cond (eqb (q .d) 0) (q .t - 38) (q .d)
 
 -- ---- the range as a test
 

@@ -1,4 +1,4 @@
--- 02, Five: the bar schedule of a floor, "from a floor alone".
+-- 02, Five as amended by Six: the bar schedule of a floor, "from a floor alone".
 -- Assumes nothing.
 use Prim.Native.Nat.{ℕ, _*_, _/_, _≤_}
 use mathlib.Core.Bool.{Bool, cond}

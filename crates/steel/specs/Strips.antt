@@ -1,13 +1,15 @@
--- 02, Five: a strip of a section of a span, and its record of the schedule. A span has six strips, q from 0 to 5: of section q / 2, the column strip
+-- 02, Five as amended by Six: a strip of a section of a span, and its record of the schedule. A span has six strips, q from 0 to 5: of section q / 2, the column strip
 -- where q is even and the middle strip where it is odd.
 -- Assumes nothing.
-use Prim.Native.Nat.{ℕ, _+_, _/_, _%_}
+use Prim.Native.Nat.{ℕ, _+_, _-_, _/_, _%_}
 use mathlib.Core.Bool.{Bool, cond, not}
 use mathlib.Core.List.{List}
 use lib.Dec.{eqb}
 use lib.ListN.{getD}
 use Rattle.numbers.specs.Tests.{all}
 use Rattle.answers.specs.declared.Answer.{Answer}
+use Rattle.plan.specs.declared.ways.Way.{Way}
+use Rattle.plan.specs.Ways.{pick}
 use Rattle.plan.specs.Plan.{thickness, strength, grade}
 use Rattle.bars.specs.declared.choice.Bars.{Bars}
 use Rattle.bars.specs.declared.entry.Entry.{Entry}
@@ -58,12 +60,13 @@ stripMoment s q = getD (s .numbers) (momentNumber q) 0
 unfoldable pub materialsOf : List ℕ → Materials
 materialsOf f = record { t = thickness f; fc = strength f; fy = grade f }
 
--- "The area is the steel answer for that moment and width at d = 0."
-abbrev pub scheduleDepth : ℕ
-scheduleDepth = 0
+-- "The area is the steel answer for that moment and width"; 02, Six, of its depth: "Callers that meant the first layer pass t − 26 themselves. In the schedule these
+-- are the x frames"; "y frames keep 0"
+unfoldable pub scheduleDepth : Way → ℕ → ℕ
+scheduleDepth d t = pick d (t - 26) 0
 
 unfoldable pub stripQuery : Span → Materials → ℕ → Query
-stripQuery s m q = queryOf (stripMoment s q) (stripWidth s q) (m .t) scheduleDepth (m .fc) (m .fy)
+stripQuery s m q = queryOf (stripMoment s q) (stripWidth s q) (m .t) (scheduleDepth (s .way) (m .t)) (m .fc) (m .fy)
 
 -- ---- the bars
 

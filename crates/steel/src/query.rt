@@ -37,5 +37,5 @@ pub fn depth_of(q: Query) -> u64
     requires { ⌜ InRange q ⌝ }
     ensures { λ r. ⌜ r ≡ depthOf q ⌝ }
 {
-    if q.d == 0 { q.t - 26 } else { q.d }
+    if q.d == 0 { q.t - 38 } else { q.d }
 }

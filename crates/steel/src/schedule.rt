@@ -2,6 +2,7 @@
 // record is worked out twice.
 use crate::strip::Materials;
 use crate::strip::entry;
+use crate::strip::moment_number;
 use answers::Answer;
 use answers::refused_query;
 use answers::success;
@@ -63,9 +64,11 @@ fn lay_span(schedule: &mut [u8], s: Span, m: Materials, k: u32, store: bool) -> 
     requires { ⌜ Laying (now schedule) s m k store ⌝ }
     ensures { λ r. ⌜ (r ≡ spanBarred s m k) × (now (schedule .exit) ≡ cond store (writtenFrom numberBytes every (stripBytes s m k) (k * spanNumbers) spanNumbers (now (schedule .entry))) (now (schedule .entry))) ⌝ }
 {
+    // Copied once for its strips.
+    let numbers = s.numbers;
     let mut q: u32 = 0;
     while q < STRIPS {
-        let e = entry(s, m, k, q);
+        let e = entry(s, m, k, q, numbers[moment_number(q)]);
         if e.diameter == 0 {
             return false;
         }

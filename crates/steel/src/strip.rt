@@ -5,10 +5,12 @@ use bars::entry::Entry;
 use bars::width::column_width;
 use bars::width::middle_width;
 use frames::span::Span;
+use numbers::larger;
+use plan::ways::Way;
 ghost use mathlib.Core.Path.{_≡_};
 ghost use Prim.Native.Nat.{_≤_, _<_};
 ghost use Rattle.steel.specs.Asked.{InSpan};
-ghost use Rattle.steel.specs.Strips.{momentNumber, stripWidth, stripMoment, nothing, reinforcementOf, entryOf};
+ghost use Rattle.steel.specs.Strips.{momentNumber, stripWidth, scheduleDepth, nothing, reinforcementOf, entryOf};
 
 // t, fc and fy of a floor.
 pub struct Materials {
@@ -36,7 +38,7 @@ fn strip_width(s: Span, q: u32) -> u64
 }
 
 // Which number of the span's record is the moment.
-fn moment_number(q: u32) -> usize
+pub fn moment_number(q: u32) -> usize
     requires { ⌜ q < 6 ⌝ }
     ensures { λ r. ⌜ (r ≡ momentNumber q) × (r ≤ 15) ⌝ }
 {
@@ -48,12 +50,16 @@ fn moment_number(q: u32) -> usize
     }
 }
 
-fn strip_moment(s: Span, q: u32) -> u32
-    requires { ⌜ q < 6 ⌝ }
-    ensures { λ r. ⌜ r ≡ stripMoment s q ⌝ }
+// The depth that is asked for: bars along x lie in the first layer, and bars along y inside them, at the default depth (02, Six). A slab thinner than 26 counts as
+// 26 here; the query refuses it in any case.
+fn schedule_depth(way: Way, t: u64) -> u64
+    ensures { λ r. ⌜ r ≡ scheduleDepth way t ⌝ }
 {
-    let numbers = s.numbers;
-    numbers[moment_number(q)]
+    let first_layer = larger(t, 26) - 26;
+    match way {
+        Way::X => first_layer,
+        Way::Y => 0,
+    }
 }
 
 fn none() -> Reinforcement
@@ -89,17 +95,18 @@ fn reinforce(query: Query) -> Reinforcement
 }
 
 // The record of the schedule for strip q of span s, which is record k of the table.
-pub fn entry(s: Span, m: Materials, k: u32, q: u32) -> Entry
-    requires { ⌜ InSpan s q ⌝ }
+pub fn entry(s: Span, m: Materials, k: u32, q: u32, moment: u32) -> Entry
+    requires { ⌜ InSpan s q moment ⌝ }
     ensures { λ r. ⌜ r ≡ entryOf s m k q ⌝ }
 {
     let width = strip_width(s, q);
-    let moment = strip_moment(s, q);
+    let way = s.way;
+    let depth = schedule_depth(way, m.t);
     let laid = reinforce(Query {
         m: moment as u64,
         b: width,
         t: m.t,
-        d: 0,
+        d: depth,
         fc: m.fc,
         fy: m.fy,
     });

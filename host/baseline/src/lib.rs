@@ -1,4 +1,4 @@
-//! The rules of 01, requests One to Five of 02 and the list of broken places beyond them, in plain Rust written for
+//! The rules of 01, requests One to Six of 02 and the list of broken places beyond them, in plain Rust written for
 //! speed: what the proved library is timed against.
 //!
 //! The seven calls are the library's. Each reads the floor's bytes once into fixed arrays and works from

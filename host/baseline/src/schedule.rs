@@ -1,10 +1,10 @@
-//! "Bar schedule." (02, Five): each strip's bounds are worked out once for its three sections.
+//! "Bar schedule." (02, Five), at the depths of 02, Six: each strip's bounds are worked out once for its three sections.
 
 use crate::floor::{Floor, MOST_RECORDS, X, Y};
 use crate::frames::{self, Spans};
 use crate::judge::Layout;
 use crate::lines::{Across, Stiffness};
-use crate::steel::Section;
+use crate::steel::{default_depth, Section};
 
 /// "record number in the table, section .., strip .., width, moment, area, bar diameter, spacing"
 pub type Entry = [u32; 8];
@@ -33,15 +33,38 @@ pub fn entries(floor: &Floor, layout: Layout, stiffness: &Stiffness) -> Option<V
     let mut records = (0..).zip(&*table);
     let mut entries = Vec::with_capacity(count(floor));
     for way in [X, Y] {
+        let slab = Slab::of(floor, way);
         for (line, beam) in floor.beams(way).iter().enumerate() {
             let across = Across::of(floor, way, line);
             for (&l1, (record, numbers)) in floor.spans(way).iter().zip(&mut records) {
-                let strips = strips(floor, across, l1, beam.width)?;
+                let strips = strips(slab, across, l1, beam.width)?;
                 add(&mut entries, record, numbers, &strips)?;
             }
         }
     }
     Some(entries)
+}
+
+/// What the strips of a direction have in common: thickness, depth of their bars, concrete and steel.
+#[derive(Clone, Copy)]
+struct Slab {
+    t: u64,
+    depth: u64,
+    fc: u64,
+    fy: u64,
+}
+
+impl Slab {
+    /// "Callers that meant the first layer pass t − 26 themselves. In the schedule these are the x frames .. y frames
+    /// keep 0" (02, Six)
+    fn of(floor: &Floor, way: usize) -> Slab {
+        let [t, fc, fy] = [floor.t, floor.fc, floor.fy].map(u64::from);
+        let depth = match way {
+            X => t - 26,
+            _ => default_depth(t),
+        };
+        Slab { t, depth, fc, fy }
+    }
 }
 
 /// A strip of a span, whatever its moment.
@@ -53,13 +76,12 @@ struct Strip {
 
 impl Strip {
     #[inline]
-    fn of(floor: &Floor, width: u32) -> Strip {
-        let [b, t, fc, fy] = [width, floor.t, floor.fc, floor.fy].map(u64::from);
+    fn of(slab: Slab, width: u32) -> Strip {
+        let Slab { t, depth, fc, fy } = slab;
         Strip {
             width,
-            twice_t: 2 * floor.t,
-            // "at d = 0", which "stands for t − 26" (01)
-            section: Section::of(b, t, t - 26, fc, fy),
+            twice_t: 2 * t as u32,
+            section: Section::of(width.into(), t, depth, fc, fy),
         }
     }
 
@@ -83,7 +105,7 @@ impl Strip {
 /// Column and middle strip. "Column strip width is wc, less the beam's width on an inside line, less half of it,
 /// rounded up, on an outer line; middle strip width is W less wc."
 #[inline]
-fn strips(floor: &Floor, across: Across, l1: u32, beam: u32) -> Option<[Strip; 2]> {
+fn strips(slab: Slab, across: Across, l1: u32, beam: u32) -> Option<[Strip; 2]> {
     let wc = across.four_strips(l1) / 4;
     let taken = match across.is_outer() {
         true => beam.div_ceil(2),
@@ -92,7 +114,7 @@ fn strips(floor: &Floor, across: Across, l1: u32, beam: u32) -> Option<[Strip; 2
     let column = wc.checked_sub(taken).filter(|&width| width > 0)?;
     // At least a quarter of the spans beside the line.
     let middle = across.twice_width() / 2 - wc;
-    Some([Strip::of(floor, column), Strip::of(floor, middle)])
+    Some([Strip::of(slab, column), Strip::of(slab, middle)])
 }
 
 /// "The moment is the slab part for the column strip and the middle part for the other": of total, column, middle, beam

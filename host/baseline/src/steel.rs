@@ -1,4 +1,4 @@
-//! "Slab steel", refusals 11 and 12.
+//! "Slab steel", its default depth by 02, Six; refusals 11 and 12.
 
 use crate::judge::materials_in_range;
 use crate::Answer;
@@ -35,10 +35,15 @@ fn area(query: Query) -> Result<u32, u32> {
         return Err(11);
     }
     let Query { m, b, t, d, fc, fy } = query;
-    // "d = 0 stands for t − 26."
-    let depth = if d == 0 { t - 26 } else { d };
+    let depth = if d == 0 { default_depth(t) } else { d };
     let section = Section::of(b, t, depth, fc, fy);
     section.area(m).ok_or(12)
+}
+
+/// "From now on 0 stands for t − 38, the second layer" (02, Six)
+#[inline]
+pub fn default_depth(t: u64) -> u64 {
+    t - 38
 }
 
 /// What bounds the areas of a width of slab, whatever its moment.

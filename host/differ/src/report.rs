@@ -131,7 +131,7 @@ fn schedules(tally: &Tally) -> String {
     let told = &tally.schedules;
     let refused = numbered(told, |told| match told {
         Scheduled::Written => 0,
-        Scheduled::FirstUnbarred | Scheduled::LaterUnbarred => 17,
+        Scheduled::FirstUnbarred | Scheduled::LaterUnbarred | Scheduled::UnbarredAlongY => 17,
         Scheduled::Refused(number) => *number,
     });
     let lacks = [
@@ -142,7 +142,7 @@ fn schedules(tally: &Tally) -> String {
     .map(|(lack, words)| format!("no {words}: {}", grouped(tally.lacks.of(&lack))));
     format!(
         "asked for schedules: {}, of them {} written, {} refused ({})\n  bars, in so many floors: {}\n  \
-         refused 17 by {}; {} times by the first record\n  lent to clear floors: {}\n",
+         refused 17 by {}; {} times by the first record, {} in y frames alone\n  lent to clear floors: {}\n",
         grouped(told.total()),
         grouped(told.of(&Scheduled::Written)),
         grouped(refused.total()),
@@ -150,6 +150,7 @@ fn schedules(tally: &Tally) -> String {
         listed(&tally.bars),
         lacks.join(", "),
         grouped(told.of(&Scheduled::FirstUnbarred)),
+        grouped(told.of(&Scheduled::UnbarredAlongY)),
         listed(&tally.buffers),
     )
 }
@@ -196,6 +197,7 @@ pub fn report(tally: &Tally) -> String {
         queries("panel queries", &tally.panels),
         changes(tally),
         queries("steel queries", &tally.steel),
+        format!("  with d = 0: {}\n", listed(&tally.defaults)),
     ]
     .concat()
 }

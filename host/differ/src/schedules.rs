@@ -6,9 +6,12 @@ use crate::same::same_answer;
 use crate::tally::{BarSort, Scheduled, Slice, Tally};
 use cases::draw::Draw;
 use cases::floors::long::garbage;
-use reference::floor_file::sizes;
+use reference::floor_file::{records_of_kind, sizes, Sizes};
 use reference::refusals::{refusal, SUCCESS};
-use reference::schedule::{each, length, schedule, Entry, ALWAYS_SUFFICE, BARS, BYTES};
+use reference::schedule::{
+    each, least_area, length, schedule, Entry, ALWAYS_SUFFICE, BARS, BYTES, OF_A_SPAN,
+};
+use reference::steel::Query;
 use std::collections::BTreeSet;
 
 /// How many bytes are lent where so many are asked for: as many, fewer, more, none, or what always suffices.
@@ -62,7 +65,8 @@ fn count(tally: &mut Tally, floor: &[u8], refused: u128) {
     let scheduled = match refused {
         SUCCESS => {
             let entries: Vec<Entry> = each(floor).into_iter().flatten().collect();
-            let sorts = sorts(sizes(floor).t, &entries);
+            let mut sorts = sorts(sizes(floor).t, &entries);
+            sorts.extend(layers(floor, &entries));
             sorts.into_iter().for_each(|sort| tally.bars.add(sort));
             Scheduled::Written
         }
@@ -73,7 +77,8 @@ fn count(tally: &mut Tally, floor: &[u8], refused: u128) {
             tally.lacks.add(lack.expect("a strip without bars"));
             match barred {
                 0 => Scheduled::FirstUnbarred,
-                _ => Scheduled::LaterUnbarred,
+                _ if barred < of_x_frames(floor) => Scheduled::LaterUnbarred,
+                _ => Scheduled::UnbarredAlongY,
             }
         }
         _ => Scheduled::Refused(refused),
@@ -100,4 +105,40 @@ fn sorts(t: u128, entries: &[Entry]) -> BTreeSet<BarSort> {
         }
     }
     sorts
+}
+
+/// How many entries of a schedule are of x frames, which come first.
+fn of_x_frames(floor: &[u8]) -> usize {
+    let Sizes { nx, ny, .. } = sizes(floor);
+    (OF_A_SPAN * nx * (ny + 1)) as usize
+}
+
+/// Whether a mm of depth less tells in the areas of x frames, and a mm more in those of y frames.
+fn layers(floor: &[u8], entries: &[Entry]) -> Vec<BarSort> {
+    let (along_x, along_y) = entries.split_at(of_x_frames(floor));
+    let sorts = [
+        (BarSort::FirstLayer, told_from(floor, along_x, 27)),
+        (BarSort::SecondLayer, told_from(floor, along_y, 37)),
+    ];
+    let told = sorts.into_iter().filter(|(_, told)| *told);
+    told.map(|(sort, _)| sort).collect()
+}
+
+/// Whether some area is another at a depth of t less so many mm.
+fn told_from(floor: &[u8], entries: &[Entry], less: u128) -> bool {
+    let t = sizes(floor).t;
+    let materials = records_of_kind(floor, 2)[0];
+    let at_depth = |entry: &Entry| {
+        least_area(Query {
+            m: entry.moment,
+            b: entry.width,
+            t,
+            d: t - less,
+            fc: materials.a,
+            fy: materials.b,
+        })
+    };
+    entries
+        .iter()
+        .any(|entry| at_depth(entry) != Some(entry.area))
 }

@@ -2,10 +2,12 @@
 
 use crate::case::Case;
 use crate::same::same_answer;
+use crate::tally::{DefaultSort, Tally};
 use cases::draw::Draw;
 use cases::queries::drawn::{any, narrow, real, shallow, stray};
 use cases::queries::steps::strip_and_area;
 use cases::queries::strength::greatest_moment;
+use reference::schedule::least_area;
 use reference::steel::{answer, Query};
 
 /// Queries in a case.
@@ -24,7 +26,24 @@ pub fn compare(case: &mut Case, query: Query) -> Result<(), String> {
     same_answer((case.job.calls.steel)(as_lent(query)), right)
         .map_err(|words| format!("{query:?}: {words}"))?;
     case.tally.steel.add(right.0);
+    if query.d == 0 && right.0 != 11 {
+        count_default(case.tally, query, right.1);
+    }
     Ok(())
+}
+
+/// So much less than t: what 0 stood for in 01, and a mm to either side of what it stands for in 02, Six.
+pub const OTHER_DEFAULTS: [u128; 3] = [26, 37, 39];
+
+/// Of a query in range: its area is 0 where there is none.
+fn count_default(tally: &mut Tally, query: Query, area: u128) {
+    tally.defaults.add(DefaultSort::Asked);
+    for less in OTHER_DEFAULTS {
+        let d = query.t - less;
+        if least_area(Query { d, ..query }).unwrap_or(0) != area {
+            tally.defaults.add(DefaultSort::ToldFrom(less));
+        }
+    }
 }
 
 fn drawn(draw: &mut Draw) -> Query {

@@ -91,8 +91,10 @@ pub enum Scheduled {
     Written,
     /// 17, by the first record of all.
     FirstUnbarred,
-    /// 17, after records that could be written.
+    /// 17, by a later record of an x frame.
     LaterUnbarred,
+    /// 17, where all x frames could be written.
+    UnbarredAlongY,
     Refused(u128),
 }
 
@@ -107,6 +109,10 @@ pub enum BarSort {
     Widest,
     /// Bar area times width is area times spacing.
     Exact,
+    /// In an x frame, an area that is another at t − 27, and so at t − 38.
+    FirstLayer,
+    /// In a y frame, an area that is another at t − 37, and so at t − 26.
+    SecondLayer,
 }
 
 impl fmt::Display for BarSort {
@@ -116,6 +122,26 @@ impl fmt::Display for BarSort {
             BarSort::Closest => write!(f, "at 80"),
             BarSort::Widest => write!(f, "at 2t"),
             BarSort::Exact => write!(f, "just enough"),
+            BarSort::FirstLayer => write!(f, "along x told from t − 27"),
+            BarSort::SecondLayer => write!(f, "along y told from t − 37"),
+        }
+    }
+}
+
+/// What is met of a steel query with d = 0 (02, Six).
+#[derive(Clone, Copy, Debug, PartialEq, Eq, PartialOrd, Ord)]
+pub enum DefaultSort {
+    /// It is in range.
+    Asked,
+    /// It has another answer where 0 stands for t less so many mm.
+    ToldFrom(u128),
+}
+
+impl fmt::Display for DefaultSort {
+    fn fmt(&self, f: &mut fmt::Formatter) -> fmt::Result {
+        match self {
+            DefaultSort::Asked => write!(f, "in range"),
+            DefaultSort::ToldFrom(less) => write!(f, "told from t − {less}"),
         }
     }
 }
@@ -243,6 +269,8 @@ pub struct Tally {
     pub before: Counts<Before>,
     /// Steel queries, by their refusal or 0.
     pub steel: Counts<u128>,
+    /// And what was met of those with d = 0.
+    pub defaults: Counts<DefaultSort>,
     /// Where lent buffers started, from one address that 16 divides to the next.
     pub floor_addresses: Counts<usize>,
     pub table_addresses: Counts<usize>,
@@ -277,6 +305,7 @@ impl Tally {
         self.kept_clear.merge(other.kept_clear);
         self.before.merge(other.before);
         self.steel.merge(other.steel);
+        self.defaults.merge(other.defaults);
         self.floor_addresses.merge(other.floor_addresses);
         self.table_addresses.merge(other.table_addresses);
         self.governing_addresses.merge(other.governing_addresses);

@@ -1,7 +1,9 @@
 //! What a comparison should have met and has not: a generator that decays is noticed.
 
+use crate::steel::OTHER_DEFAULTS;
 use crate::tally::{
-    BarSort, BeamSort, Before, Counts, Listed, Opened, Said, Scheduled, Slice, Step, Tally,
+    BarSort, BeamSort, Before, Counts, DefaultSort, Listed, Opened, Said, Scheduled, Slice, Step,
+    Tally,
 };
 use cases::runs::changes::KINDS;
 use reference::schedule::Lack;
@@ -114,6 +116,7 @@ fn missing_of_schedules(tally: &Tally) -> Vec<String> {
         Scheduled::Written,
         Scheduled::FirstUnbarred,
         Scheduled::LaterUnbarred,
+        Scheduled::UnbarredAlongY,
     ];
     let bars = [10, 12, 16].map(BarSort::Of).into_iter();
     let bars = bars.chain([BarSort::Closest, BarSort::Widest, BarSort::Exact]);
@@ -129,8 +132,18 @@ fn missing_of_schedules(tally: &Tally) -> Vec<String> {
         missing(&tally.lacks, lacks, |lack| {
             format!("a strip without its {lack:?}")
         }),
+        rare_layers(tally),
     ]
     .concat()
+}
+
+/// Where every strip takes its least area no depth is told from another.
+fn rare_layers(tally: &Tally) -> Vec<String> {
+    let written = tally.schedules.of(&Scheduled::Written);
+    let layers = [BarSort::FirstLayer, BarSort::SecondLayer].into_iter();
+    let rare = layers.filter(|sort| 2 * tally.bars.of(sort) <= written);
+    rare.map(|sort| format!("one schedule of two: bars {sort}"))
+        .collect()
 }
 
 fn missing_addresses(tally: &Tally) -> Vec<String> {
@@ -238,9 +251,13 @@ pub fn changes(tally: &Tally) -> Vec<String> {
 }
 
 pub fn steel(tally: &Tally) -> Vec<String> {
-    missing(&tally.steel, [0, 11, 12], |number| {
+    let told = OTHER_DEFAULTS.map(DefaultSort::ToldFrom).into_iter();
+    let rare = told.filter(|sort| 20 * tally.defaults.of(sort) <= tally.steel.total());
+    let mut lacking = missing(&tally.steel, [0, 11, 12], |number| {
         format!("a steel query: refusal {number}")
-    })
+    });
+    lacking.extend(rare.map(|sort| format!("one steel query of twenty: d = 0 {sort}")));
+    lacking
 }
 
 pub fn all(tally: &Tally) -> Vec<String> {

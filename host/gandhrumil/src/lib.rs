@@ -7,7 +7,7 @@ mod calls;
 pub use calls::Answer;
 
 /// `GANDHRUMIL_VERSION` of the header whose calls these are (docs/CHANGES.md).
-pub const VERSION: u32 = 7;
+pub const VERSION: u32 = 8;
 
 /// `GANDHRUMIL_PLACES_LEN`: numbers enough for the places of any floor.
 pub const PLACES_LEN: usize = 3_172;
@@ -72,7 +72,8 @@ pub fn places(floor: &[u8], places: &mut [u32]) -> Answer {
     }
 }
 
-/// The bar schedule of a clear floor: of each section and strip a record of 32 bytes.
+/// The bar schedule of a clear floor: of each section and strip a record of 32 bytes, with the bars along x
+/// next to the faces of the slab and those along y inside them.
 pub fn schedule(floor: &[u8], schedule: &mut [u8]) -> Answer {
     // SAFETY: the two slices are lent for the call, with their own lengths, and cannot overlap.
     unsafe {
@@ -91,6 +92,7 @@ pub struct Query {
     pub m: u64,
     pub b: u64,
     pub t: u64,
+    /// Or 0 for t − 38, the second of two layers of bars. The first, next to the face of the slab, is t − 26.
     pub d: u64,
     pub fc: u64,
     pub fy: u64,

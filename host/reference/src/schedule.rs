@@ -1,4 +1,4 @@
-//! "Bar schedule." (02, Five)
+//! "Bar schedule." (02, Five), its depths by "The default depth." (02, Six)
 
 use crate::floor_file::{records_of_kind, sizes};
 use crate::frame::{x_frames, y_frames, Frame};
@@ -108,7 +108,8 @@ pub fn bar_and_spacing(width: u128, area: u128, t: u128) -> Option<(u128, u128)>
     None
 }
 
-/// "The area is the steel answer for that moment and width at d = 0": `steel::answer`, without trying every area.
+/// "The area is the steel answer for that moment and width", at the depth of the strip's frame: `steel::answer`,
+/// without trying every area.
 ///
 /// The first area to stop at is the least that has enough steel or strains too little. From there on each stops too.
 /// An area past the strain limit has only such above it, and so has one that meets the minimum. Where the strain is
@@ -151,10 +152,12 @@ struct Strip {
     strip: u128,
     width: i128,
     moment: u128,
+    /// As the steel query has it: t − 26 or 0, see `strips`.
+    d: u128,
 }
 
 /// The strips of one span: "Every section of every span appears once for each strip, in that order."
-fn strips_of_span(frame: &Frame, line: Line, span: usize, record: u128) -> Vec<Strip> {
+fn strips_of_span(frame: &Frame, line: Line, span: usize, record: u128, d: u128) -> Vec<Strip> {
     let wc = column_strip_width(frame.spans[span], frame.adjoining);
     let column_width = column_width(wc, line);
     let middle_width = middle_width(frame_width(frame.adjoining), wc);
@@ -170,36 +173,42 @@ fn strips_of_span(frame: &Frame, line: Line, span: usize, record: u128) -> Vec<S
                 strip,
                 width,
                 moment,
+                d,
             });
         }
     }
     strips
 }
 
-/// The frames of a direction with their lines, each span with the record that it has in the table.
+/// The frames of a direction with their lines, each span with the record that it has in the table, all at one depth.
 fn strips_of_frames(
     frames: Vec<Frame>,
     lines: Vec<Line>,
     record: impl Fn(u128, u128) -> u128,
+    d: u128,
 ) -> Vec<Strip> {
     let mut strips = Vec::new();
     for (number, (frame, line)) in (0..).zip(frames.iter().zip(lines)) {
         for span in 0..frame.spans.len() {
             let record = record(number, span as u128);
-            strips.extend(strips_of_span(frame, line, span, record));
+            strips.extend(strips_of_span(frame, line, span, record, d));
         }
     }
     strips
 }
 
 /// By rising record, as the x frames come first in the table.
+///
+/// "Callers that meant the first layer pass t − 26 themselves. In the schedule these are the x frames .. y frames keep
+/// 0" (02, Six).
 fn strips(floor: &[u8]) -> Vec<Strip> {
     let sizes = sizes(floor);
+    let first_layer = sizes.t - 26;
     let of_x = |line, span| x_record(sizes, line, span);
     let of_y = |line, span| y_record(sizes, line, span);
     [
-        strips_of_frames(x_frames(floor), x_lines(floor), of_x),
-        strips_of_frames(y_frames(floor), y_lines(floor), of_y),
+        strips_of_frames(x_frames(floor), x_lines(floor), of_x, first_layer),
+        strips_of_frames(y_frames(floor), y_lines(floor), of_y, 0),
     ]
     .concat()
 }
@@ -215,7 +224,7 @@ fn with_bars(strip: Strip, t: u128, fc: u128, fy: u128) -> Result<Entry, Lack> {
         m: strip.moment,
         b: width,
         t,
-        d: 0,
+        d: strip.d,
         fc,
         fy,
     });

@@ -1,4 +1,4 @@
-//! "Slab steel" and, of "Refusal numbers, in the order tried", 11 and 12.
+//! "Slab steel", with "The default depth." (02, Six), and, of "Refusal numbers, in the order tried", 11 and 12.
 
 use crate::floor_file::materials_are_in_range;
 use crate::refusals::SUCCESS;
@@ -36,10 +36,11 @@ fn values_are_in_range(query: Query) -> bool {
         && materials_are_in_range(fc, fy)
 }
 
-/// "d = 0 stands for t − 26."
+/// "From now on 0 stands for t − 38, the second layer" (02, Six), where 01 had t − 26. "At t = 90 the default is 52,
+/// still in range."
 pub fn depth(query: Query) -> u128 {
     match query.d {
-        0 => query.t - 26,
+        0 => query.t - 38,
         d => d,
     }
 }

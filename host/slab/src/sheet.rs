@@ -4,6 +4,7 @@ pub mod date;
 mod escape;
 mod frames;
 pub mod html;
+mod layers;
 pub mod schedule;
 pub mod text;
 pub mod unbarred;
@@ -24,8 +25,8 @@ pub struct Sheet {
 pub enum Content {
     Clear {
         facts: String,
-        /// Why there are no bars, where there are none.
-        unbarred: Option<String>,
+        /// What is said of the bars, or why there are none.
+        bars: Result<String, String>,
         frames: Vec<Frame>,
     },
     /// The sentence of each broken limit. There is no figure.
@@ -69,18 +70,15 @@ impl Sheet {
 
 fn clear(held: &Held, moments: &Moments) -> Content {
     let floor = held.floor();
-    let (schedule, unbarred) = match Schedule::of(held.file()) {
-        Ok(schedule) => (Some(schedule), None),
-        Err(number) => (None, Some(refusal::no_bars(number))),
-    };
+    let schedule = Schedule::of(held.file());
     Content::Clear {
         facts: facts(&floor),
-        unbarred,
         frames: frames(Found {
             floor: &floor,
             moments,
-            schedule: schedule.as_ref(),
+            schedule: schedule.as_ref().ok(),
         }),
+        bars: schedule.map(|_| of_bars(&floor)).map_err(refusal::no_bars),
     }
 }
 
@@ -104,18 +102,20 @@ pub fn facts(floor: &Floor) -> String {
     )
 }
 
-const OF_BARS: &str =
-    " Bars: diameter @ spacing in mm; those of the column strip lie in its slab, beside the beam.";
+fn of_bars(floor: &Floor) -> String {
+    let layers = layers::note(floor.t);
+    format!("Bars: diameter @ spacing in mm; those of the column strip lie in its slab, beside the beam. {layers}")
+}
 
 /// `beside` is what else stands with each moment.
-fn notes(beside: &str, unbarred: &Option<String>) -> String {
-    let bars = match unbarred {
-        None => OF_BARS,
-        Some(_) => "",
-    };
-    format!(
+fn notes(beside: &str, bars: &Result<String, String>) -> String {
+    let mut notes = format!(
         "Moments in kN·m, rounded up to the next 0.01{beside}. Top and bottom say where in the slab the steel lies. \
          Lines, spans and supports count from 0; x lines run west to east, y lines south to north. \
-         Column strip: beam and slab together.{bars}"
-    )
+         Column strip: beam and slab together."
+    );
+    if let Ok(bars) = bars {
+        notes += &format!(" {bars}");
+    }
+    notes
 }

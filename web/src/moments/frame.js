@@ -1,5 +1,6 @@
 // One frame with all its numbers. It is read from the table of a clear floor and its schedule, and from nothing else.
 
+import { barDepth } from '../say/depths.js';
 import { frameBars } from '../schedule.js';
 import { spanRecord, supportAt } from '../table.js';
 
@@ -9,8 +10,9 @@ import { spanRecord, supportAt } from '../table.js';
 /** @typedef {import('../table.js').Section} Section */
 /** @typedef {import('../table.js').SpanRecord} SpanRecord */
 /**
- * The columns' size is that along the frame, in mm as the lengths are; `bars` of each span, or null where the schedule is refused.
- * @typedef {{way: Way, line: number, lengths: number[], columns: number, spans: SpanRecord[], bars: SpanBars[] | null, supports: Section[]}} Frame
+ * The columns' size is that along the frame, in mm as are the lengths and the bars' depth; `bars` of each span, or null where none are shown.
+ * @typedef {{way: Way, line: number, lengths: number[], columns: number, spans: SpanRecord[], bars: SpanBars[] | null, depth: number,
+ *     supports: Section[]}} Frame
  */
 
 /** @param {Judged} judged of a clear floor @param {Way} way @param {number} line @returns {Frame} */
@@ -24,6 +26,7 @@ export function frameOf(judged, way, line) {
         columns: way === 'x' ? cx : cy,
         spans: lengths.map((_, span) => spanRecord(judged, way, line, span)),
         bars: frameBars(judged, way, line),
+        depth: barDepth(judged.floor, way),
         supports: [0, ...lengths].map((_, support) => supportAt(judged, way, line, support)),
     };
 }

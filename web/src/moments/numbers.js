@@ -1,6 +1,7 @@
 // A frame's numbers in two tables: the three sections of each span with its static moment and its bars, and the governing negative at each support.
 
 import { element } from '../dom.js';
+import { sayLayer } from '../say/depths.js';
 import { BARS_NOTE, sayBars, STRIPS } from '../schedule.js';
 import { kNm, kNmOfNm } from '../units.js';
 import { SUPPORTS_CAPTION, headRow, spanRows, supportRow } from './rows.js';
@@ -63,10 +64,15 @@ export class FrameTables {
             { class: 'moment', 'data-support': support, 'data-part': part },
             ({ supports }, { moment }) => moment(supports[support][part]),
         )));
-        this.spans.replaceChildren(element('caption', {}, 'three sections of each span'),
-            headRow(['span', 'length, mm', 'Mo', 'section', 'steel'], frame.bars !== null),
+        this.spans.replaceChildren(this.spansCaption(frame), headRow(['span', 'length, mm', 'Mo', 'section', 'steel'], frame.bars !== null),
             ...frame.lengths.map((_, span) => this.spanBody(frame, span)));
         this.supports.replaceChildren(element('caption', {}, SUPPORTS_CAPTION), headRow(['support', 'at', 'steel']), element('tbody', {}, ...rows));
+    }
+
+    /** @param {Frame} frame */
+    spansCaption({ bars }) {
+        const layer = () => element('span', { class: 'layer' }, this.text(({ way, depth }) => sayLayer(way, depth)));
+        return element('caption', {}, 'three sections of each span ', ...(bars === null ? [] : [layer()]));
     }
 
     /** @param {Frame} frame @param {number} span */
@@ -92,8 +98,13 @@ export class FrameTables {
 
     /** @param {Attributes} attributes @param {Reading} reading */
     cell(attributes, reading) {
+        return element('td', attributes, this.text(reading));
+    }
+
+    /** @param {Reading} reading */
+    text(reading) {
         const text = document.createTextNode('');
         this.cells.push({ text, reading });
-        return element('td', attributes, text);
+        return text;
     }
 }

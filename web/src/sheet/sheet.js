@@ -1,6 +1,7 @@
 // The fixer's sheet, element for element what `slab sheet --html` writes: of a clear floor every frame, of any other what is broken and no figure.
 
 import { element } from '../dom.js';
+import { sayLayers } from '../say/depths.js';
 import { brokenLimits, CLEAR_SENTENCE } from '../say/limits.js';
 import { sayUnbarred } from '../say/refusals.js';
 import { BARS_NOTE } from '../schedule.js';
@@ -27,7 +28,7 @@ function clearFloor(judged, words) {
     const { refusal } = judged.schedule;
     const head = [paragraph('facts', floorFacts(judged.floor)), paragraph('standing', CLEAR_SENTENCE)];
     const notes = refusal === 0
-        ? [paragraph('notes', `${SHEET_NOTES} ${BARS_NOTE}`)]
+        ? [paragraph('notes', `${SHEET_NOTES} ${BARS_NOTE} ${sayLayers(judged.floor)}`)]
         : [paragraph('unbarred', sayUnbarred(words, refusal)), paragraph('notes', SHEET_NOTES)];
     return [...head, ...notes, ...frameSections(judged)];
 }

@@ -1,4 +1,4 @@
-// The bar schedule in the page: bars beside the moments of each frame, the file for the yard, and what is said where there is none.
+// The bar schedule in the page: bars beside the moments of each frame, how deep they lie, the file for the yard, what is said where there is none.
 
 import assert from 'node:assert/strict';
 import { existsSync, readdirSync, readFileSync } from 'node:fs';
@@ -18,6 +18,10 @@ const DRAWN_FLOORS = 10;
 
 const BROKEN = changedGarage((floor) => {
     floor.t = 150;
+});
+
+const THICKER = changedGarage((floor) => {
+    floor.t = 240;
 });
 
 /**
@@ -190,3 +194,92 @@ test('a load that is typed takes the bars away, and another brings them back', a
     assert.deepEqual((await browser.run(barsOfAllFrames)).slice(0, 6), ['x0 0 low column: 10 @ 210', 'x0 0 low middle: 10 @ 210',
         'x0 0 between column: 10 @ 210', 'x0 0 between middle: 10 @ 210', 'x0 0 high column: 10 @ 210', 'x0 0 high middle: 10 @ 200']);
 });
+
+/**
+ * In the page: picks each frame of the list, scrolls to its first bars, and reads what is said of their depth where the whole of it is then in sight.
+ */
+function layersInSight() {
+    const frames = Array.from(/** @type {NodeListOf<HTMLOptionElement>} */ (document.querySelectorAll('#frame-pick option')), ({ value }) => value);
+    return frames.map((value) => {
+        const pick = /** @type {HTMLSelectElement} */ (document.querySelector('#frame-pick'));
+        pick.value = value;
+        pick.dispatchEvent(new Event('change', { bubbles: true }));
+        document.querySelector('#frame-table td.bars')?.scrollIntoView({ block: 'center' });
+        const notes = Array.from(document.querySelectorAll('#frame-table .layer')).filter((note) => {
+            const { left, right, top, bottom } = note.getBoundingClientRect();
+            const corners = [[left + 1, top + 1], [right - 1, top + 1], [left + 1, bottom - 1], [right - 1, bottom - 1]];
+            return corners.every(([x, y]) => document.elementFromPoint(x, y) === note);
+        });
+        return `${value}: ${notes.map((note) => note.textContent).join(' ')}`;
+    });
+}
+
+/**
+ * What is to be said of the garage's frames.
+ * @param {number} x the depth along x @param {number} y along y
+ */
+function layersOfGarage(x, y) {
+    const along = Array.from({ length: 5 }, (_, line) => `x${line}: Bars at an effective depth of ${x} mm, next to the face of the slab.`);
+    const across = Array.from({ length: 6 }, (_, line) => `y${line}: Bars at an effective depth of ${y} mm, inside the bars along x.`);
+    return [...along, ...across];
+}
+
+test('over the bars of every frame stands how deep they lie, also after another slab is typed and after an undo', async () => {
+    const { page, browser } = seat;
+    assert.deepEqual(await browser.run(layersInSight), layersOfGarage(174, 162));
+    await browser.type('#slab', '240\uE007');
+    assert.equal(await page.bytes(), hex(THICKER));
+    assert.deepEqual(await page.texts('#frame-table .layer'), ['Bars at an effective depth of 202 mm, inside the bars along x.'], 'of the frame that was picked');
+    assert.deepEqual(await browser.run(layersInSight), layersOfGarage(214, 202));
+    await browser.click('#undo');
+    assert.deepEqual(await browser.run(layersInSight), layersOfGarage(174, 162));
+    await browser.size(1024, 768);
+    assert.deepEqual(await browser.run(layersInSight), layersOfGarage(174, 162));
+    await browser.size(1280, 800);
+});
+
+/** In the page: every text that says how deep bars lie, shown or not. */
+function depthsInDocument() {
+    const said = [];
+    const walker = document.createTreeWalker(document.body, NodeFilter.SHOW_TEXT);
+    for (let node = walker.nextNode(); node !== null; node = walker.nextNode()) {
+        if (!node.parentElement?.closest('script') && /depth of \d+ mm/.test(node.nodeValue ?? '')) {
+            said.push(node.nodeValue ?? '');
+        }
+    }
+    return said;
+}
+
+test('the notes of the sheet say which bars lie next to the face and which on them, with the depths of the slab as it is', async () => {
+    const { page, browser } = seat;
+    await browser.click('#show-sheet');
+    for (const { bytes, x, y } of [{ bytes: GARAGE, x: 174, y: 162 }, { bytes: THICKER, x: 214, y: 202 }]) {
+        await page.lay(bytes);
+        const sentence = `At top and bottom, bars along x lie next to the face of the slab, at an effective depth of ${x} mm, and bars along y inside them, at ${y} mm.`;
+        const [notes, ...more] = await page.texts('#sheet p.notes');
+        assert.deepEqual(more, []);
+        assert.ok(notes.endsWith(` ${sentence}`), notes);
+        assert.equal((await browser.run(depthsInDocument)).length, 2, 'on the sheet, and over the bars of the frame');
+    }
+    await browser.click('#show-sheet');
+});
+
+for (const { what, bytes } of [
+    { what: 'is not clear', bytes: BROKEN },
+    { what: 'asks for more steel than bars give', bytes: HEAVY_FLOOR },
+    { what: 'has beams as wide as its column strips', bytes: WIDE_BEAMS },
+]) {
+    test(`no depth is said of a floor that ${what}, on the screen or on the sheet, until there are bars again`, async () => {
+        const { page, browser } = seat;
+        const before = await browser.run(depthsInDocument);
+        assert.equal(before.length, 1);
+        await page.lay(bytes);
+        assert.deepEqual(await browser.run(depthsInDocument), []);
+        await browser.click('#show-sheet');
+        assert.equal(await page.count('#sheet article.sheet'), 1);
+        assert.deepEqual(await browser.run(depthsInDocument), []);
+        await browser.click('#show-sheet');
+        await browser.click('#undo');
+        assert.deepEqual(await browser.run(depthsInDocument), before);
+    });
+}

@@ -1,5 +1,7 @@
-//! Values at the ends of their ranges and past them: refusal 11.
+//! Values at the ends of their ranges and past them: refusal 11. Also where it tells
+//! which depth 0 stands for.
 
+use super::strength::{greatest_area, greatest_moment, least_area};
 use super::Described;
 use reference::steel::Query;
 use std::collections::BTreeSet;
@@ -12,6 +14,7 @@ pub fn queries() -> Vec<Described> {
         pairs_of_values(),
         corners(),
         depths(),
+        default_depths(),
         thin_slabs(),
     ]
     .concat()
@@ -131,7 +134,8 @@ fn depths() -> Vec<Described> {
     let [strip, ..] = strips();
     let mut queries = Vec::new();
     for t in [90, 91, 151, 499, 500] {
-        let mut tried = BTreeSet::from([0, 1, 2, 25, 26, 49, 50, 51]);
+        let mut tried = BTreeSet::from([0, 1, 2, 25, 26, 37, 38, 39, 49, 50, 51]);
+        tried.extend(t - 40..=t - 36);
         tried.extend(t - 28..=t - 22);
         tried.extend(t - 1..=t + 1);
         for d in tried {
@@ -144,12 +148,40 @@ fn depths() -> Vec<Described> {
     queries
 }
 
-/// Too thin for t − 25 or t − 26 to be a depth, or to be a number at all.
+/// "From now on 0 stands for t − 38" (02, Six), where 1 mm of depth tells: at the greatest moments that the minimum and
+/// the strain limit bear at that depth, and at 1 N·cm more. Beside them t − 26, for which 0 stood before.
+fn default_depths() -> Vec<Described> {
+    let [strip, ..] = strips();
+    let mut queries = Vec::new();
+    for t in [90, 91, 150, 500] {
+        let second_layer = Query {
+            t,
+            d: t - 38,
+            ..strip
+        };
+        for area in [least_area(second_layer), greatest_area(second_layer)] {
+            let carried = greatest_moment(second_layer, area);
+            for m in [carried, carried + 1] {
+                for d in [0, t - 39, t - 38, t - 37, t - 26] {
+                    queries.push(Described::new(
+                        format!("default depth, t {t} with M {m}, d {d}"),
+                        Query { m, t, d, ..strip },
+                    ));
+                }
+            }
+        }
+    }
+    queries
+}
+
+/// Too thin for t − 25 or t − 38 to be a depth, or to be a number at all.
 fn thin_slabs() -> Vec<Described> {
     let [strip, ..] = strips();
     let mut queries = Vec::new();
-    for t in [0, 1, 24, 25, 26, 27, 49, 50, 74, 75, 76, 89] {
-        for d in [0, 1, 50, 63, 64, u64::MAX.into()] {
+    for t in [
+        0, 1, 24, 25, 26, 27, 37, 38, 39, 49, 50, 74, 75, 76, 87, 88, 89,
+    ] {
+        for d in [0, 1, 50, 51, 63, 64, u64::MAX.into()] {
             queries.push(Described::new(
                 format!("thin, t {t} with d {d}"),
                 Query { t, d, ..strip },

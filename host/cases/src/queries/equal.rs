@@ -3,7 +3,7 @@
 use super::limits::of_strip;
 use super::strength::{greatest_area, greatest_moment, least_area};
 use super::Described;
-use reference::steel::Query;
+use reference::steel::{depth, Query};
 
 pub fn queries() -> Vec<Described> {
     let mut queries = moments();
@@ -18,13 +18,15 @@ pub fn queries() -> Vec<Described> {
 /// 224000·280.
 pub const STRAINS: &[[u128; 5]] = &[
     [800, 190, 160, 28, 280],
-    [800, 186, 0, 28, 280],
+    [800, 198, 0, 28, 280],
     [800, 200, 160, 28, 420],
     [400, 190, 160, 26, 520],
     [50, 90, 64, 35, 280],
-    [50, 90, 0, 35, 420],
+    [200, 90, 0, 35, 420],
+    [50, 102, 0, 35, 420],
+    [400, 500, 0, 35, 420],
     [1_400, 250, 224, 55, 280],
-    [700, 250, 0, 55, 420],
+    [700, 262, 0, 55, 420],
     [1_600, 400, 364, 55, 520],
     [100, 190, 160, 56, 280],
     [100, 106, 80, 56, 420],
@@ -48,15 +50,20 @@ pub const MINIMA: &[[u128; 5]] = &[
 
 /// Whether 9·As·fy·(17·fc·b·d − 10·As·fy) is a multiple of 1700·fc·b.
 pub fn moment_is_whole(strip: Query, area: u128) -> bool {
-    let Query { b, d, fc, fy, .. } = strip;
-    let left = 9 * area * fy * (17 * fc * b * d - 10 * area * fy);
+    let Query { b, fc, fy, .. } = strip;
+    let left = 9 * area * fy * (17 * fc * b * depth(strip) - 10 * area * fy);
     left.is_multiple_of(1700 * fc * b)
 }
 
 /// A few whole moments of each strip, each with 1 less and 1 more.
 fn moments() -> Vec<Described> {
     let mut queries = Vec::new();
-    for (b, t, d) in [(1_000, 150, 124), (850, 200, 170), (50, 500, 475)] {
+    for (b, t, d) in [
+        (1_000, 150, 124),
+        (1_000, 150, 0),
+        (850, 200, 170),
+        (50, 500, 475),
+    ] {
         for fc in [20, 25, 28, 34, 50, 56] {
             for fy in [280, 420, 520] {
                 let m = 0;

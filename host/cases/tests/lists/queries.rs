@@ -56,6 +56,62 @@ fn every_end_is_tried() {
     }
 }
 
+/// 01's with a stated d, and with d 0 those that the reference's tests work by hand.
+#[test]
+fn figures_answer_as_said() {
+    for (words, expected) in [
+        ("figure of 01, 484", (0, 484)),
+        ("figure of 01, 270", (0, 270)),
+        ("figure of 01, refusal 12", (12, 0)),
+        ("540 with d 0", (0, 540)),
+        ("270 with d 0", (0, 270)),
+        ("refusal 12 with d 0", (12, 0)),
+        ("484 with d 0, t 162", (0, 484)),
+        ("no room for the minimum", (12, 0)),
+    ] {
+        assert_eq!(answer(described(words)), expected, "{words}");
+    }
+}
+
+fn described(words: &str) -> Query {
+    let mut all = queries::all().into_iter();
+    let given = all.find(|given| given.description == words);
+    given
+        .unwrap_or_else(|| panic!("no query is described as {words:?}"))
+        .query
+}
+
+/// "From now on 0 stands for t − 38" (02, Six): with 1 mm less the greatest moment that an area carries takes another
+/// answer, with 1 mm more the next moment does. Each t has the minimum, 756·1000·t/420000 rounded up, and the strain
+/// limit, 51·1170·30·1000·(t − 38)/(224000·420) rounded down: 989.4, 1008.5, 2131.1 and 8790.7.
+#[test]
+fn default_depths_are_told_apart() {
+    for (t, areas) in [
+        (90, [162, 989]),
+        (91, [164, 1_008]),
+        (150, [270, 2_131]),
+        (500, [900, 8_790]),
+    ] {
+        for area in areas {
+            let strip = Query::of([0, 1_000, t, t - 38, 30, 420]);
+            let carried = greatest_moment(strip, area);
+            let at = |m, d| {
+                answer(described(&format!(
+                    "default depth, t {t} with M {m}, d {d}"
+                )))
+            };
+            assert_eq!(at(carried, 0), (0, area), "t {t}");
+            assert_eq!(at(carried, t - 38), (0, area), "t {t}");
+            assert_ne!(at(carried, t - 39), (0, area), "t {t}");
+            let next = at(carried + 1, 0);
+            assert!(next == (0, area + 1) || next == (12, 0), "t {t}");
+            assert_eq!(at(carried + 1, t - 38), next, "t {t}");
+            assert_ne!(at(carried + 1, t - 37), next, "t {t}");
+            assert_ne!(at(carried + 1, t - 26), next, "t {t}");
+        }
+    }
+}
+
 fn strips(numbers: &[[u128; 5]]) -> Vec<Query> {
     let strip = |&[b, t, d, fc, fy]: &[u128; 5]| Query::of([0, b, t, d, fc, fy]);
     numbers.iter().map(strip).collect()

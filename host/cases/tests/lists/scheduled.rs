@@ -1,5 +1,5 @@
-//! What holds of every schedule (02, Five): its sentences as properties of what is written, over clear floors that are
-//! listed and drawn.
+//! What holds of every schedule (02, Five and Six): their sentences as properties of what is written, over clear floors
+//! that are listed and drawn.
 
 use crate::floors::clear_floors;
 use cases::draw::Draw;
@@ -18,6 +18,24 @@ struct Strip {
     place: [u128; 3],
     width: i64,
     moment: u128,
+    layer: Layer,
+}
+
+/// "The y bars lie on the x bars" (02, Six).
+#[derive(Clone, Copy, Debug, PartialEq, Eq)]
+enum Layer {
+    First,
+    Second,
+}
+
+impl Layer {
+    /// "0 stands for t − 38, the second layer .. Callers that meant the first layer pass t − 26 themselves."
+    fn depth(self, t: u128) -> u128 {
+        match self {
+            Layer::First => t - 26,
+            Layer::Second => t - 38,
+        }
+    }
 }
 
 /// A line: the spans along it, those beside it, its column across and its beam's width. On an outer line one of the
@@ -27,6 +45,7 @@ struct Line<'a> {
     beside: [u32; 2],
     column: u32,
     beam: u32,
+    layer: Layer,
 }
 
 impl Line<'_> {
@@ -51,9 +70,9 @@ impl Line<'_> {
 fn lines(floor: &Floor) -> Vec<Line<'_>> {
     let (x, y) = (&floor.x_spans, &floor.y_spans);
     let mut lines = Vec::new();
-    for (along, across, beams, column) in [
-        (x, y, &floor.x_lines, floor.cy),
-        (y, x, &floor.y_lines, floor.cx),
+    for (along, across, beams, column, layer) in [
+        (x, y, &floor.x_lines, floor.cy, Layer::First),
+        (y, x, &floor.y_lines, floor.cx, Layer::Second),
     ] {
         let span = |number: usize| across.get(number).copied().unwrap_or(0);
         for (number, &(beam, _)) in beams.iter().enumerate() {
@@ -63,6 +82,7 @@ fn lines(floor: &Floor) -> Vec<Line<'_>> {
                 beside,
                 column,
                 beam,
+                layer,
             });
         }
     }
@@ -84,6 +104,7 @@ fn strips(floor: &Floor) -> Vec<Strip> {
                         place: [record, section, strip],
                         width,
                         moment: moment.into(),
+                        layer: line.layer,
                     });
                 }
             }
@@ -114,14 +135,20 @@ fn hold_bars(entry: &Entry, t: u128) {
     }
 }
 
-fn hold_strip(strip: Strip, found: Result<Entry, Lack>, floor: &Floor) {
+/// The steel answer for the strip at a stated depth, which Six leaves as it was.
+fn steel_at(strip: Strip, d: u128, floor: &Floor) -> (u128, u128) {
     let [t, fc, fy] = [floor.t, floor.fc, floor.fy].map(u128::from);
+    let width = u128::try_from(strip.width).expect("a width above 0");
+    steel(strip.moment, width, t, d, fc, fy)
+}
+
+fn hold_strip(strip: Strip, found: Result<Entry, Lack>, floor: &Floor) {
     if strip.width <= 0 {
         assert_eq!(found, Err(Lack::Width));
         return;
     }
-    let width = strip.width as u128;
-    let (refused, area) = steel(strip.moment, width, t, 0, fc, fy);
+    let (width, t) = (strip.width as u128, u128::from(floor.t));
+    let (refused, area) = steel_at(strip, strip.layer.depth(t), floor);
     match found {
         Ok(entry) => {
             assert_eq!([entry.record, entry.section, entry.strip], strip.place);
@@ -164,12 +191,17 @@ fn drawn_floors() -> Vec<Floor> {
     floors
 }
 
+fn listed_floors() -> Vec<Floor> {
+    let listed = clear_floors().into_iter();
+    listed
+        .map(|floor| Floor::of(&floor.bytes).expect("a floor that is taken"))
+        .collect()
+}
+
 /// Each bar and each lack comes up among both.
 #[test]
 fn every_schedule() {
-    let listed = clear_floors().into_iter();
-    let listed = listed.map(|floor| Floor::of(&floor.bytes).expect("a floor that is taken"));
-    for floors in [listed.collect(), drawn_floors()] {
+    for floors in [listed_floors(), drawn_floors()] {
         let mut sorts = BTreeMap::new();
         for floor in floors {
             for (sort, strips) in hold(&floor) {
@@ -178,6 +210,76 @@ fn every_schedule() {
         }
         let names = ["10", "12", "16", "Area", "Bar", "Width"];
         assert!(sorts.keys().eq(names), "{sorts:?}");
+        assert!(sorts.values().all(|&strips| strips >= 30), "{sorts:?}");
+    }
+}
+
+/// What Five made of a strip: "the steel answer for that moment and width at d = 0", when 0 stood for t − 26; and with
+/// it the first bar, by diameter, that goes at some multiple of 10 mm, at the largest.
+fn of_five(strip: Strip, floor: &Floor) -> Result<[u128; 3], Lack> {
+    if strip.width <= 0 {
+        return Err(Lack::Width);
+    }
+    let t = u128::from(floor.t);
+    let (refused, area) = steel_at(strip, t - 26, floor);
+    if refused != 0 {
+        return Err(Lack::Area);
+    }
+    for (diameter, bar) in [(10, 79), (12, 113), (16, 201)] {
+        let enough = bar * strip.width as u128 / area;
+        let spacing = enough.min(2 * t) / 10 * 10;
+        if spacing >= 80 {
+            return Ok([area, diameter, spacing]);
+        }
+    }
+    Err(Lack::Bar)
+}
+
+/// How a strip of a y frame compares with what Five made of it: never with less steel.
+fn against_five(found: Result<[u128; 3], Lack>, five: Result<[u128; 3], Lack>) -> &'static str {
+    let (found, five) = match (found, five) {
+        (Ok(found), Ok(five)) => (found, five),
+        (Err(_), Ok(_)) => return "lacking now",
+        (Err(_), Err(_)) => return "lacking as before",
+        (Ok(found), Err(lack)) => panic!("{found:?} where Five lacks {lack:?}"),
+    };
+    assert!(found[0] >= five[0], "{found:?} {five:?}");
+    let same = [0, 1, 2].map(|number| found[number] == five[number]);
+    match same {
+        [true, true, true] => "the same",
+        [false, true, true] => "more steel, the same bars",
+        [false, true, false] => "closer bars",
+        [false, false, _] => "thicker bars",
+        _ => panic!("{found:?} {five:?}"),
+    }
+}
+
+/// "In the schedule these are the x frames, and it is shown that their records read as before; y frames keep 0 and are
+/// worked afresh." (02, Six)
+#[test]
+fn x_records_as_before_and_y_records_afresh() {
+    for floors in [listed_floors(), drawn_floors()] {
+        let mut sorts = BTreeMap::new();
+        for floor in floors {
+            let found = each(&floor.bytes()).into_iter();
+            let found = found.map(|strip| strip.map(|e| [e.area, e.diameter, e.spacing]));
+            for (strip, found) in strips(&floor).into_iter().zip(found) {
+                let five = of_five(strip, &floor);
+                match strip.layer {
+                    Layer::First => assert_eq!(found, five, "{:?} {floor:?}", strip.place),
+                    Layer::Second => *sorts.entry(against_five(found, five)).or_insert(0) += 1,
+                }
+            }
+        }
+        let names = [
+            "closer bars",
+            "lacking as before",
+            "lacking now",
+            "more steel, the same bars",
+            "the same",
+            "thicker bars",
+        ];
+        assert!(sorts.keys().eq(&names), "{sorts:?}");
         assert!(sorts.values().all(|&strips| strips >= 30), "{sorts:?}");
     }
 }

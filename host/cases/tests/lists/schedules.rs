@@ -1,8 +1,8 @@
-//! The floors to schedule bars of: that each is what its words say (02, Five).
+//! The floors to schedule bars of: that each is what its words say (02, Five and Six).
 
 use crate::floors::all_floors;
 use cases::floors::{schedules, Described};
-use reference::floor_file::sizes;
+use floor::Floor;
 use reference::schedule::{each, entries, schedule, Entry, Lack, ALWAYS_SUFFICE};
 use reference::steel::steel;
 use reference::table::{numbers, place};
@@ -57,6 +57,9 @@ fn bars(words: &str) -> Vec<(u128, u128, u128)> {
         .collect()
 }
 
+/// Each floor that is not the same both ways is there along x and across.
+const BOTH_WAYS: [&str; 2] = ["", ", across"];
+
 /// 78.9 of 79 at 80; 113/0.988 is 114.4; 79·1000/(1.8·t) is 351 at t 125 and above 2t up to 148.
 #[test]
 fn one_bar_at_one_spacing() {
@@ -72,64 +75,71 @@ fn one_bar_at_one_spacing() {
         ("spacing at 2t, t 95", (10, 190)),
     ] {
         let (diameter, spacing) = expected;
-        assert_eq!(bars(words), [(diameter, spacing, spacing)], "{words}");
+        for across in BOTH_WAYS {
+            let words = format!("{words}{across}");
+            assert_eq!(bars(&words), [(diameter, spacing, spacing)], "{words}");
+        }
     }
+}
+
+fn diameters(words: &str) -> Vec<u128> {
+    let bars = bars(words).into_iter();
+    bars.map(|(diameter, ..)| diameter).collect()
 }
 
 #[test]
 fn bars_as_said() {
     for (words, expected) in [
         ("10 mm alone", &[10][..]),
-        ("12x12, 10 mm alone", &[10]),
         ("10 and 12 mm", &[10, 12]),
         ("10, 12 and 16 mm", &[10, 12, 16]),
         ("10, 12 and 16 mm, beams on the outer lines", &[10, 12, 16]),
         ("12 and 16 mm, t 500", &[12, 16]),
     ] {
-        let taken = bars(words).into_iter().map(|(diameter, ..)| diameter);
-        assert_eq!(taken.collect::<Vec<_>>(), expected, "{words}");
+        for across in BOTH_WAYS {
+            assert_eq!(diameters(&format!("{words}{across}")), expected, "{words}");
+        }
     }
+    assert_eq!(diameters("12x12, 10 mm alone"), [10]);
 }
 
 /// "for which bar area times width is at least area times spacing": 79, 113 and 201 over 3,200 mm make so much at 80 and
-/// at 100. A mm² more takes the next spacing or bar, 113·3200/3161 being 114.4 and 201·3200/4521 142.3; no bar is left
-/// for 8,041.
+/// at 100, and 79 over 400 mm 316 at 100. A mm² more takes the next spacing or bar, 113·3200/3161 being 114.4 and
+/// 201·3200/4521 142.3; no bar is left for 8,041.
+///
+/// It is asked for on x frames at t − 26 and on y frames at t − 38.
 #[test]
 fn equality_and_one_past_it() {
-    for (diameter, spacing, area, next) in [
-        (10, 80, 3_160, Some((12, 110))),
-        (10, 100, 2_528, Some((10, 90))),
-        (12, 80, 4_520, Some((16, 140))),
-        (12, 100, 3_616, Some((12, 90))),
-        (16, 80, 8_040, None),
-        (16, 100, 6_432, Some((16, 90))),
+    for (t, width, diameter, spacing, area, next) in [
+        (90, 400, 10, 100, 316, Some((10, 90))),
+        (240, 3_200, 10, 80, 3_160, Some((12, 110))),
+        (240, 3_200, 10, 100, 2_528, Some((10, 90))),
+        (240, 3_200, 12, 80, 4_520, Some((16, 140))),
+        (240, 3_200, 12, 100, 3_616, Some((12, 90))),
+        (240, 3_200, 16, 80, 8_040, None),
+        (240, 3_200, 16, 100, 6_432, Some((16, 90))),
+        (500, 3_200, 12, 80, 4_520, Some((16, 140))),
+        (500, 3_200, 16, 80, 8_040, None),
     ] {
-        for across in ["", ", across"] {
-            let at = format!("just {diameter} mm at {spacing}{across}");
-            let at = inner_end(&at).expect("bars");
-            assert_eq!((at.width, at.area), (3_200, area));
-            assert_eq!((at.diameter, at.spacing), (diameter, spacing));
-            let words = format!("just not {diameter} mm at {spacing}{across}");
-            let past = inner_end(&words).map(|past| (past.diameter, past.spacing));
-            assert_eq!(past, next.ok_or(Lack::Bar));
-            let needed = steel(inner_slab_moment(&words), 3_200, 240, 0, 30, 420);
-            assert_eq!(needed, (0, area + 1));
+        for (across, record, d) in [("", 4, t - 26), (", across", 20, t - 38)] {
+            let words = format!("{diameter} mm at {spacing}, t {t}{across}");
+            let at = scheduled(&format!("just {words}"))[6 * record];
+            assert_eq!((at.width, at.area), (width, area), "{words}");
+            assert_eq!((at.diameter, at.spacing), (diameter, spacing), "{words}");
+            let words = format!("just not {words}");
+            let past = each(&floor(&words).bytes)[6 * record];
+            let past = past.map(|past| (past.diameter, past.spacing));
+            assert_eq!(past, next.ok_or(Lack::Bar), "{words}");
+            let needed = steel(low_slab_moment(&words, record), width, t, d, 30, 420);
+            assert_eq!(needed, (0, area + 1), "{words}");
         }
     }
 }
 
-/// The column strip at the low end of the second span on x line 1.
-fn inner_end(words: &str) -> Result<Entry, Lack> {
-    let bytes = &floor(words).bytes;
-    let record = 1 + sizes(bytes).nx as usize;
-    each(bytes)[6 * record]
-}
-
-/// Of the same section in the table: total, column, middle, beam and slab after Mo.
-fn inner_slab_moment(words: &str) -> u128 {
-    let bytes = &floor(words).bytes;
-    let record = 1 + sizes(bytes).nx;
-    numbers(bytes)[place(record)][5].into()
+/// At the low end of a record, as the table has it: total, column, middle, beam and slab after Mo. Record 4 is that of
+/// the second span on x line 1 and, of 4 by 3 bays, record 20 that of the second span on y line 1.
+fn low_slab_moment(words: &str, record: usize) -> u128 {
+    numbers(&floor(words).bytes)[place(record as u128)][5].into()
 }
 
 /// The records of `Place` in `schedules`, and with x and y changed round: of 3 by 4 bays 15 records are of x frames
@@ -191,8 +201,10 @@ fn no_area_and_no_bar_in_one_record() {
         for (words, record) in [("", along), (", across", across)] {
             for (lack, what) in [(Lack::Area, "area"), (Lack::Bar, "bar")] {
                 let expected = strips.iter().map(|strip| (6 * record + strip, lack));
-                let words = format!("no {what} in {place}{words}");
-                assert_eq!(lacks(&words), expected.collect::<Vec<_>>(), "{words}");
+                let lacking = format!("no {what} in {place}{words}");
+                assert_eq!(lacks(&lacking), expected.collect::<Vec<_>>(), "{lacking}");
+                let article = if lack == Lack::Area { "an" } else { "a" };
+                scheduled(&format!("just {article} {what} in {place}{words}"));
             }
         }
     }
@@ -208,6 +220,99 @@ fn the_last_strip_alone() {
             let found = lacks(&format!("no {lacking} in the last strip{words}"));
             assert_eq!(found, [(last, lack)]);
         }
+    }
+}
+
+/// 3 by 3 bays that are the same both ways: the x frames have the first 72 strips, the y frames the same once more.
+fn assert_same_both_ways(words: &str) {
+    let floor = Floor::of(&floor(words).bytes).expect("a floor");
+    assert_eq!(floor, floor.transposed(), "{words}");
+    assert_eq!((floor.x_spans.len(), floor.y_spans.len()), (3, 3));
+}
+
+/// How many strips of x frames and of y frames lack this, where none lacks anything else.
+fn lacks_by_frames(words: &str, expected: Lack) -> [usize; 2] {
+    assert_same_both_ways(words);
+    let lacks = lacks(words).into_iter();
+    let places = lacks.map(|(place, lack)| {
+        assert_eq!(lack, expected, "{words}");
+        place
+    });
+    let (x, y): (Vec<usize>, Vec<usize>) = places.partition(|&place| place < 72);
+    [x.len(), y.len()]
+}
+
+/// "The y bars lie on the x bars, so steel worked out for them at d = 0 is short" (02, Six): what Five could still bar
+/// is refused 17 by y frames alone.
+#[test]
+fn y_frames_lack_first() {
+    for (t, what, lack) in [
+        (90, "area", Lack::Area),
+        (150, "area", Lack::Area),
+        (240, "bar", Lack::Bar),
+        (500, "bar", Lack::Bar),
+    ] {
+        let lacks = |words: &str| lacks_by_frames(&format!("{what} {words}, t {t}"), lack);
+        assert_eq!(lacks("lacking nowhere"), [0, 0], "{t}");
+        for words in ["just lacking on y frames", "just not lacking on x frames"] {
+            let [x, y] = lacks(words);
+            assert!(x == 0 && y > 0, "{words}, t {t}");
+        }
+        let [x, y] = lacks("lacking on x frames too");
+        assert!(x > 0 && y > 0, "{t}");
+    }
+}
+
+/// Area, diameter and spacing of a strip on an x frame and of the same strip on the y frame.
+fn by_frames(words: &str, place: usize) -> [[u128; 3]; 2] {
+    assert_same_both_ways(words);
+    let entries = scheduled(words);
+    let [on_x, on_y] = [entries[place], entries[72 + place]];
+    assert_eq!((on_x.width, on_x.moment), (on_y.width, on_y.moment));
+    [on_x, on_y].map(|entry| [entry.area, entry.diameter, entry.spacing])
+}
+
+/// In the reference's tests 947 and 1,021 are worked by hand for the inner end of record 0, 1,700 mm wide.
+///
+/// For the other floors, of t 240, at the low end of record 4, 3,200 mm wide, M is three quarters of 65·Mo: Mo is
+/// 175104·6400·6000²/80000000000 = 504299.5 or 246240·6400·6000²/80000000000 = 709171.2, M 24,584,625 or 34,572,135.
+/// - On x frames, at 214, 3,160 carry 11944800·335976000/163200000 = 24,590,478 and 3,159 11941020·335980200/163200000 =
+///   24,583,004; 4,520 carry 17085600·330264000/163200000 = 34,575,726 and 4,519 17081820·330268200/163200000 =
+///   34,568,516.
+/// - On y frames, at 202, 3,364 carry 12715920·315535200/163200000 = 24,585,296 and 3,363 12712140·315539400/163200000 =
+///   24,578,315; 4,825 carry 18238500·309399000/163200000 = 34,577,044 and 4,824 18234720·309403200/163200000 =
+///   34,570,347.
+///
+/// 79·3200/3160 and 113·3200/4520 are 80; 113·3200/3364 is 107.5 and 201·3200/4825 133.3. At D 1,000 the minimum of
+/// 756·3200·240/420000 = 1382.4 governs, and 79·3200/1383 is 182.8.
+#[test]
+fn other_bars_on_y_frames() {
+    for (words, place, on_x, on_y) in [
+        ("closer on y frames", 4, [947, 10, 140], [1_021, 10, 130]),
+        (
+            "12 mm on y frames for 10",
+            24,
+            [3_160, 10, 80],
+            [3_364, 12, 100],
+        ),
+        (
+            "16 mm on y frames for 12",
+            24,
+            [4_520, 12, 80],
+            [4_825, 16, 130],
+        ),
+        (
+            "the same on y frames",
+            24,
+            [1_383, 10, 180],
+            [1_383, 10, 180],
+        ),
+    ] {
+        assert_eq!(by_frames(words, place), [on_x, on_y], "{words}");
+    }
+    for place in 0..72 {
+        let [on_x, on_y] = by_frames("the same on y frames", place);
+        assert_eq!(on_x, on_y, "{place}");
     }
 }
 

@@ -19,8 +19,8 @@ fn lent(floor: &Floor) -> Lent {
     }
 }
 
-fn query(m: u64) -> Call {
-    let [b, t, d, fc, fy] = [1_000, 150, 124, 30, 420];
+fn query(m: u64, d: u64) -> Call {
+    let [b, t, fc, fy] = [1_000, 150, 30, 420];
     Call::Steel(Query { m, b, t, d, fc, fy })
 }
 
@@ -141,11 +141,14 @@ fn broken_in_one_place() -> [Batch; 3] {
     [stray, thin(4_920), thin(4_900)].map(|floor| batch(Lent::of(&floor.bytes(), &[], &[]), &asked))
 }
 
-/// 3 by 3 bays of 2,000 with beams everywhere: a schedule with a byte past it, and a buffer too short for it. With too much live load the
-/// floor is refused 16, with a beam on y line 1 that is as wide as its column strip 17.
+/// 3 by 3 bays of 2,000 with beams everywhere, under loads for which x frames and y frames take areas of their own: a schedule with a byte past it,
+/// and a buffer too short for it. With too little dead load for its live load the floor is refused 16, with a beam on y line 1 that is as wide as its
+/// column strip 17.
 fn schedules() -> [Batch; 3] {
     let barred = Floor {
         t: 125,
+        dead: 30_000,
+        live: 50_000,
         x_spans: vec![2_000; 3],
         y_spans: vec![2_000; 3],
         x_lines: vec![(301, 400); 4],
@@ -153,7 +156,7 @@ fn schedules() -> [Batch; 3] {
         ..Floor::clear(3, 3)
     };
     let mut unclear = barred.clone();
-    unclear.live = 10_001;
+    unclear.dead = 24_999;
     let mut unbarred = barred.clone();
     unbarred.y_lines[1].0 = 1_000;
     let asked = |floor: Floor, lengths: &[usize]| {
@@ -178,7 +181,14 @@ fn broken_everywhere() -> Batch {
 }
 
 pub fn batches() -> Vec<Batch> {
-    let queries = [2_195_000, 0, 20_000_000, 2_000_000_001].map(query);
+    let queries = [
+        (2_195_000, 124),
+        (0, 124),
+        (20_000_000, 124),
+        (2_000_000_001, 124),
+        (2_195_000, 0),
+    ]
+    .map(|(m, d)| query(m, d));
     let mut batches = vec![clear_floor(), wrong_numbers(), beams(), weak_edge()];
     batches.extend(refused_floors());
     batches.extend(broken_in_one_place());

@@ -22,7 +22,7 @@ use differ::case::Case;
 use differ::job::{Calls, Change, Job, LIBRARY};
 use differ::tally::Tally;
 use differ::work::Amount;
-use differ::{floors, runs, variety};
+use differ::{floors, runs, steel, variety};
 use gandhrumil::{Answer, Query};
 use noticing::noticed;
 use std::sync::LazyLock;
@@ -145,6 +145,33 @@ fn wrong_steel() {
     assert_noticed("steel queries", calls, "fc: 20, ");
 }
 
+/// 0 stands for t less so many mm.
+fn steel_by_default_at<const LESS: u64>(query: Query) -> Answer {
+    let d = match query.d {
+        0 => query.t.saturating_sub(LESS),
+        given => given,
+    };
+    gandhrumil::steel(Query { d, ..query })
+}
+
+/// The first is what 0 stood for in 01.
+#[test]
+fn wrong_default_depths() {
+    let described = cases::queries::all();
+    for steel in [
+        steel_by_default_at::<26>,
+        steel_by_default_at::<37>,
+        steel_by_default_at::<39>,
+    ] {
+        let calls = Calls { steel, ..LIBRARY };
+        assert_noticed("steel queries", calls, ", d: 0, ");
+        let noticed = noticed_in(&described, calls, |case, given| {
+            steel::compare(case, given.query)
+        });
+        assert!(noticed.contains(", d: 0, "), "{noticed}");
+    }
+}
+
 /// The words are enough to bring the case back.
 #[test]
 fn a_difference_names_its_case() {
@@ -188,6 +215,7 @@ fn what_never_came_up() {
         "a change of kind 5 that keeps a floor clear, on a slice that agrees",
         "a change that makes a tie",
         "a steel query: refusal 12",
+        "one steel query of twenty: d = 0 told from t − 37",
     ] {
         assert!(missed.iter().any(|one| one == words), "{words}");
     }
@@ -199,12 +227,15 @@ fn what_never_came_up_of_schedules() {
     for words in [
         "a floor asked for its schedule: Written",
         "a floor asked for its schedule: LaterUnbarred",
+        "a floor asked for its schedule: UnbarredAlongY",
         "a floor asked for its schedule: Refused(15)",
         "a floor asked for its schedule: Refused(16)",
         "a buffer for a schedule: one short",
         "bars: 16 mm",
         "bars: just enough",
         "a strip without its Area",
+        "one schedule of two: bars along x told from t − 27",
+        "one schedule of two: bars along y told from t − 37",
         "a schedule at each of 16 addresses",
     ] {
         assert!(missed.iter().any(|one| one == words), "{words}");

@@ -1,4 +1,4 @@
-//! Libraries that schedule other bars, try their refusals in another order, or write where they must not (02, Five).
+//! Libraries that schedule other bars, at other depths, try their refusals in another order, or write where they must not (02, Five and Six).
 
 mod rules;
 
@@ -174,12 +174,33 @@ of_rules! {
         },
         ..RIGHT
     };
-    second_layer: Rules { depth: |t| t - 38, ..RIGHT };
+    x_frames_by_default: Rules { depths: |_| [0, 0], ..RIGHT };
+    y_frames_in_the_first_layer: Rules { depths: |t| [t - 26, t - 26], ..RIGHT };
+    layers_exchanged: Rules { depths: |t| [0, t - 26], ..RIGHT };
+    x_frames_a_mm_deeper: Rules { depths: |t| [t - 25, 0], ..RIGHT };
+    x_frames_a_mm_less_deep: Rules { depths: |t| [t - 27, 0], ..RIGHT };
+    y_frames_a_mm_deeper: Rules { depths: |t| [t - 26, t - 37], ..RIGHT };
+    y_frames_a_mm_less_deep: Rules { depths: |t| [t - 26, t - 39], ..RIGHT };
+}
+
+/// A default that still stands for t − 26 leaves the y frames in the first layer, and one of t − 37 makes them a mm deeper.
+#[test]
+fn wrong_depths() {
+    let wrong: [Schedule; 7] = [
+        x_frames_by_default,
+        y_frames_in_the_first_layer,
+        layers_exchanged,
+        x_frames_a_mm_deeper,
+        x_frames_a_mm_less_deep,
+        y_frames_a_mm_deeper,
+        y_frames_a_mm_less_deep,
+    ];
+    wrong.into_iter().for_each(assert_noticed_schedule);
 }
 
 #[test]
 fn wrong_rules() {
-    let wrong: [Schedule; 13] = [
+    let wrong: [Schedule; 12] = [
         room_before_the_verdict,
         bars_before_room,
         bars_before_the_verdict,
@@ -192,7 +213,6 @@ fn wrong_rules() {
         bars_at_70,
         bars_at_90,
         never_just_enough,
-        second_layer,
     ];
     wrong.into_iter().for_each(assert_noticed_schedule);
 }

@@ -285,13 +285,21 @@ static void expect_bytes_left(const char *what, const uint8_t *bytes, int count,
 /* 3 by 3 bays of 6,000 without beams, as for the governing moments: record 3 is the first span of x line 1, both of whose strips are 3,000 wide.
  * Mo 216,384 has the shares 26, 52 and 70; between, 60 percent of its 11,251,968 are in the column strip. The least area, 756 * 3000 * 200 / 420000
  * = 1,080, carries all but the largest: As * (4437000 - 70 * As) must reach 7,663,600,000 for 11,360,160, and 1,777 gives 7,663,507,970. Bars of 10:
- * 79 * 3000 / 1080 = 219, and by 1778 133. */
+ * 79 * 3000 / 1080 = 219, and by 1778 133.
+ * Record 15 is the first span of y line 1, the same but that its bars lie inside those along x, at 162 and not at 174. As * (4131000 - 70 * As) must
+ * reach the same 7,663,600,000, and 1,917 gives 7,661,884,770; between, it must reach 4,554,367,461 for 6,751,180, and 1,080 gives 4,379,832,000,
+ * 1,123 4,550,833,970. 79 * 3000 / 1124 = 210, and by 1918 123. */
 static void schedule_of_a_span(void)
 {
-    static const uint32_t right[6][8] = {
+    static const uint32_t along_x[6][8] = {
         { 3, 0, 0, 3000, 5625984, 1080, 10, 210 },  { 3, 0, 1, 3000, 0, 1080, 10, 210 },
         { 3, 1, 0, 3000, 6751180, 1080, 10, 210 },  { 3, 1, 1, 3000, 4500788, 1080, 10, 210 },
         { 3, 2, 0, 3000, 11360160, 1778, 10, 130 }, { 3, 2, 1, 3000, 3786720, 1080, 10, 210 },
+    };
+    static const uint32_t along_y[6][8] = {
+        { 15, 0, 0, 3000, 5625984, 1080, 10, 210 },  { 15, 0, 1, 3000, 0, 1080, 10, 210 },
+        { 15, 1, 0, 3000, 6751180, 1124, 10, 210 },  { 15, 1, 1, 3000, 4500788, 1080, 10, 210 },
+        { 15, 2, 0, 3000, 11360160, 1918, 10, 120 }, { 15, 2, 1, 3000, 3786720, 1080, 10, 210 },
     };
     /* 24 records of the table; lent from an odd address on. */
     enum { BYTES = 32 * 6 * 24 };
@@ -303,8 +311,10 @@ static void schedule_of_a_span(void)
     expect("schedule, not clear, a byte short", gandhrumil_schedule(thin.bytes, thin.len, schedule, BYTES - 1), 16, 0);
     expect_bytes_left("schedule, refused", memory, BYTES + 2, 7);
     expect("schedule", gandhrumil_schedule(floor.bytes, floor.len, schedule, BYTES + 1), 0, 144);
-    for (int i = 0; i < 6; i++)
-        expect_entry(schedule + 32 * (6 * 3 + i), right[i]);
+    for (int i = 0; i < 6; i++) {
+        expect_entry(schedule + 32 * (6 * 3 + i), along_x[i]);
+        expect_entry(schedule + 32 * (6 * 15 + i), along_y[i]);
+    }
     expect_bytes_left("schedule, before it", memory, 1, 7);
     expect_bytes_left("schedule, past it", memory + 1 + BYTES, 1, 7);
 }
@@ -335,6 +345,21 @@ static void longest_schedule(void)
     expect("schedule, no room", gandhrumil_schedule(floor.bytes, floor.len, schedule, GANDHRUMIL_SCHEDULE_LEN - 1), 15, 0);
 }
 
+/* "M 2,195,000, b 1,000, t 150, d 124, fc 30, fy 420: 484; M 0: 270; M 20,000,000: refusal 12" (01). With d = 0 the depth is 112, not 124 (02, Six):
+ * As * (952000 - 70 * As) must reach 493,584,657, and 539 gives 492,791,530, 540 493,668,000. "At t = 90 the default is 52": for 500,000
+ * As * (442000 - 70 * As) must reach 112,433,863, and 265 gives 112,214,250, 266 112,619,080. */
+static void steel_queries(void)
+{
+    expect("steel", gandhrumil_steel(2195000, 1000, 150, 124, 30, 420), 0, 484);
+    expect("steel for no moment", gandhrumil_steel(0, 1000, 150, 124, 30, 420), 0, 270);
+    expect("too much moment", gandhrumil_steel(20000000, 1000, 150, 124, 30, 420), 12, 0);
+    expect("no width", gandhrumil_steel(0, 0, 150, 124, 30, 420), 11, 0);
+    expect("steel in the second layer", gandhrumil_steel(2195000, 1000, 150, 0, 30, 420), 0, 540);
+    expect("the same by its depth", gandhrumil_steel(2195000, 1000, 150, 112, 30, 420), 0, 540);
+    expect("steel in the thinnest slab", gandhrumil_steel(500000, 1000, 90, 0, 30, 420), 0, 266);
+    expect("the same by its depth", gandhrumil_steel(500000, 1000, 90, 52, 30, 420), 0, 266);
+}
+
 int main(void)
 {
     floors();
@@ -348,9 +373,6 @@ int main(void)
     schedule_of_a_span();
     schedule_or_not();
     longest_schedule();
-    expect("steel", gandhrumil_steel(2195000, 1000, 150, 124, 30, 420), 0, 484);
-    expect("steel for no moment", gandhrumil_steel(0, 1000, 150, 124, 30, 420), 0, 270);
-    expect("too much moment", gandhrumil_steel(20000000, 1000, 150, 124, 30, 420), 12, 0);
-    expect("no width", gandhrumil_steel(0, 0, 150, 124, 30, 420), 11, 0);
+    steel_queries();
     return wrong != 0;
 }

@@ -85,11 +85,20 @@ fn a_strip_of_1_mm() {
     assert_eq!(taken, [Some((12, 110)), Some((16, 100)), None]);
 }
 
-/// "M 2,195,000, b 1,000, t 150, d 124, fc 30, fy 420: 484; *M 0: 270; M 20,000,000: refusal 12." 124 is t − 26.
+/// "M 2,195,000, b 1,000, t 150, d 124, fc 30, fy 420: 484; *M 0: 270; M 20,000,000: refusal 12." 124 is t − 26, the
+/// depth of an x frame. At d 0, that of a y frame, t − 38 is 112, and 2,195,000 takes the 540 of
+/// `steel::depth_by_default`.
 #[test]
 fn areas_of_01() {
-    for (m, expected) in [(2_195_000, Some(484)), (0, Some(270)), (20_000_000, None)] {
-        let [b, t, d, fc, fy] = [1_000, 150, 0, 30, 420];
+    for (m, d, expected) in [
+        (2_195_000, 124, Some(484)),
+        (0, 124, Some(270)),
+        (20_000_000, 124, None),
+        (2_195_000, 0, Some(540)),
+        (0, 0, Some(270)),
+        (20_000_000, 0, None),
+    ] {
+        let [b, t, fc, fy] = [1_000, 150, 30, 420];
         assert_eq!(least_area(Query { m, b, t, d, fc, fy }), expected);
     }
 }

@@ -1,10 +1,13 @@
-//! "Bar schedule." (02, Five): floors with widths, moments and bars worked by hand, and what is lent.
+//! "Bar schedule." (02, Five), its depths by "The default depth." (02, Six): floors with widths, moments and bars
+//! worked by hand, and what is lent.
 
 use crate::verdict::refused;
 use floor::{Floor, NO_BEAM};
-use reference::schedule::{each, entries, schedule, Lack, ALWAYS_SUFFICE, BYTES};
+use reference::schedule::{bar_and_spacing, each, entries, schedule, Lack, ALWAYS_SUFFICE, BYTES};
+use reference::steel::steel;
 use reference::table::numbers;
 use reference::verdict::judge;
+use std::collections::BTreeSet;
 
 const HELD: u8 = 77;
 
@@ -38,11 +41,16 @@ fn assert_refused(floor: &[u8], length: usize, expected: u128) {
 /// 80000000000 = 115404.8. Of 26, 52 and 70 times 115,405 the column strip has all, 0.6 and 0.75: 3,000,530; 3,600,636
 /// of 6,001,060; 6,058,762 of 8,078,350.
 ///
-/// d is 174. The least areas are 756·1700·200/420000 = 612 and, for 1,500 mm, 540: these carry 2313360·148287600 /
-/// 86700000 = 3,956,665 and 2041200·130842000/76500000 = 3,491,172. For 6,058,762 the column strip takes 947, which
-/// carry 3579660·146880600/86700000 = 6,064,389, where 946 carry 3575880·146884800/86700000 = 6,058,158.
+/// On an x frame d is 174. The least areas are 756·1700·200/420000 = 612 and, for 1,500 mm, 540: these carry
+/// 2313360·148287600/86700000 = 3,956,665 and 2041200·130842000/76500000 = 3,491,172. For 6,058,762 the column strip
+/// takes 947, which carry 3579660·146880600/86700000 = 6,064,389, where 946 carry 3575880·146884800/86700000 =
+/// 6,058,158.
 ///
-/// 79·1700/612 and 79·1500/540 are 219.4, 79·1700/947 is 141.8.
+/// On a y frame d is 162. The least areas carry 2313360·137883600/86700000 = 3,679,058 and 2041200·121662000/76500000 =
+/// 3,246,228, still more than 3,600,636 and 2,400,424. For 6,058,762 the column strip takes 1,021, which carry
+/// 3859380·136165800/86700000 = 6,061,309, where 1,020 carry 3855600·136170000/86700000 = 6,055,560.
+///
+/// 79·1700/612 and 79·1500/540 are 219.4, 79·1700/947 is 141.8, 79·1700/1021 is 131.5.
 #[test]
 fn a_record_by_hand() {
     let outer = [
@@ -53,10 +61,12 @@ fn a_record_by_hand() {
         [0, 1_700, 3_600_636, 612, 10, 210],
         [1, 1_500, 2_400_424, 540, 10, 210],
     ];
-    let inner = [
-        [0, 1_700, 6_058_762, 947, 10, 140],
-        [1, 1_500, 2_019_588, 540, 10, 210],
-    ];
+    let inner = |area, spacing| {
+        [
+            [0, 1_700, 6_058_762, area, 10, spacing],
+            [1, 1_500, 2_019_588, 540, 10, 210],
+        ]
+    };
     let of_record = |record: u32, sections: [[[u32; 6]; 2]; 3]| {
         let mut expected = Vec::new();
         for (section, strips) in (0..).zip(sections) {
@@ -71,9 +81,12 @@ fn a_record_by_hand() {
         expected
     };
     let found = listed(&Floor::clear(3, 3));
-    assert_eq!(found[..6], of_record(0, [outer, between, inner]));
+    assert_eq!(found[..6], of_record(0, [outer, between, inner(947, 140)]));
     // The last span of the last y line has its outer end high.
-    assert_eq!(found[138..], of_record(23, [inner, between, outer]));
+    assert_eq!(
+        found[138..],
+        of_record(23, [inner(1_021, 130), between, outer])
+    );
 }
 
 /// "eight 32-bit numbers little-endian": the first of the records above, 3,000,530 being 0x2dc8d2.
@@ -184,11 +197,11 @@ fn moments_are_those_of_the_table() {
     }
 }
 
-/// No rule tells x from y: with both changed round the y frames come first.
+/// Up to the moment no rule tells x from y: with both changed round the y frames come first.
 #[test]
 fn a_floor_transposed() {
     let floor = unlike("1111", "1111");
-    let rest = |entry: &Numbers| entry[1..].to_vec();
+    let rest = |entry: &Numbers| entry[1..5].to_vec();
     let along: Vec<_> = listed(&floor).iter().map(rest).collect();
     let across: Vec<_> = listed(&floor.transposed()).iter().map(rest).collect();
     assert_eq!(across, [&along[72..], &along[..72]].concat());
@@ -222,8 +235,8 @@ fn column_strips(found: &[Numbers], line: usize) -> Vec<Numbers> {
 }
 
 /// Of 350 outside 697/2 and 698/2, rounded up, leave 1; of 500 inside 499 does. 756·125/420000 asks for 1 mm², which
-/// carries 3780·(50490 − 4200)/51000 = 3,430, and no slab part is above 15 percent of three quarters of 70·96. For 1 mm²
-/// 12 mm bars do at 110.
+/// carries 3780·(50490 − 4200)/51000 = 3,430 on an x frame and 3780·(44370 − 4200)/51000 = 2,977 on a y frame, and no
+/// slab part is above 15 percent of three quarters of 70·96. For 1 mm² 12 mm bars do at 110.
 #[test]
 fn a_width_of_1() {
     for (outer, inner, lines) in [(697, 150, [0, 3]), (698, 150, [4, 7]), (150, 499, [1, 6])] {
@@ -256,49 +269,153 @@ fn a_width_of_0_or_less() {
     }
 }
 
-/// Inside the column strips are 1 mm wide, d is 274, and every side is fully restrained, so that 65·Mo at an inner end
-/// is the largest total there. W is 1,000 and ln 800: Mo is (12D + 16L)/125, rounded up.
-fn thick(dead: u32, live: u32) -> Floor {
-    let mut floor = Floor {
+/// On the inside x lines, or y lines, the column strips are 1 mm wide. Every side is fully restrained, so that 65·Mo at
+/// an inner end is the largest total there. W is 1,000 and ln 800: Mo is (12D + 16L)/125, rounded up.
+fn thick(x_inner: u32, y_inner: u32, dead: u32, live: u32) -> Floor {
+    let beams = |inner| vec![(150, 450), (inner, 450), (inner, 450), (150, 450)];
+    Floor {
         t: 300,
         dead,
         live,
         sides: 170,
-        ..short(150, 499)
-    };
-    for (_, depth) in floor.x_lines.iter_mut().chain(&mut floor.y_lines) {
-        *depth = 450;
+        x_lines: beams(x_inner),
+        y_lines: beams(y_inner),
+        ..short(150, 150)
     }
-    floor
 }
 
-/// Low end of the inner span on x line 1.
-const INNER_END: usize = 6 * 4;
+/// Low end of the inner span on x line 1, record 4, and on y line 1, record 16.
+const X_INNER_END: usize = 6 * 4;
+const Y_INNER_END: usize = 6 * 16;
 
-/// "no bar that allows a spacing": 2 mm² carry 7560·(139740 − 8400)/51000 = 19,469 and take 16 mm bars at 100; 3 mm²
-/// are too many for any. Mo is 332748/125 = 2661.98 or 332760/125 = 2662.08, so that of 65·Mo three quarters and, of
-/// these, 15 percent are 19,466 (129,772 less 110,306) or 19,474 (129,821 less 110,347).
+/// "no bar that allows a spacing": 2 mm² take 16 mm bars at 100; 3 mm² are too many for any.
+///
+/// On an x frame d is 274, and 2 mm² carry 7560·(139740 − 8400)/51000 = 19,469. Mo is 332748/125 = 2661.98 or
+/// 332760/125 = 2662.08, so that of 65·Mo three quarters and, of these, 15 percent are 19,466 (129,772 less 110,306) or
+/// 19,474 (129,821 less 110,347).
+///
+/// On a y frame d is 262, and 2 mm² carry 7560·(133620 − 8400)/51000 = 18,562. Mo is 317244/125 = 2537.95 or
+/// 317256/125 = 2538.05, and the moments are 18,560 (123,727 less 105,167) or 18,567 (123,776 less 105,209).
 #[test]
 fn no_bar() {
-    let found = listed(&thick(27_729, 0));
-    assert_eq!(found[INNER_END], [4, 0, 0, 1, 19_466, 2, 16, 100]);
-    let floor = thick(27_730, 0).bytes();
-    assert_eq!(judge(&floor), (0, 0));
-    assert_eq!(each(&floor)[INNER_END], Err(Lack::Bar));
-    assert_refused(&floor, ALWAYS_SUFFICE, 17);
-}
-
-/// "no steel area that fits": 5 mm² carry 18900·(139740 − 21000)/51000 = 44,003, and 6 strain too little: 224000·6·420 is
-/// above 51·1170·30·274. Mo is 752112/125 = 6016.9 or 752128/125 = 6017.02, the moments 44,000 (293,328 less 249,328)
-/// and 44,007 (293,377 less 249,370).
-#[test]
-fn no_area() {
-    for (live, lack) in [(24_507, Lack::Bar), (24_508, Lack::Area)] {
-        let floor = thick(30_000, live).bytes();
+    for (inner_end, record, x_inner, y_inner, dead, moment) in [
+        (X_INNER_END, 4, 499, 150, 27_729, 19_466),
+        (Y_INNER_END, 16, 150, 499, 26_437, 18_560),
+    ] {
+        let found = listed(&thick(x_inner, y_inner, dead, 0));
+        assert_eq!(found[inner_end], [record, 0, 0, 1, moment, 2, 16, 100]);
+        let floor = thick(x_inner, y_inner, dead + 1, 0).bytes();
         assert_eq!(judge(&floor), (0, 0));
-        assert_eq!(each(&floor)[INNER_END], Err(lack));
+        assert_eq!(each(&floor)[inner_end], Err(Lack::Bar));
         assert_refused(&floor, ALWAYS_SUFFICE, 17);
     }
+}
+
+/// "no steel area that fits".
+///
+/// At 274 5 mm² carry 18900·(139740 − 21000)/51000 = 44,003, and 6 strain too little: 224000·6·420 is above
+/// 51·1170·30·274. Mo is 752112/125 = 6016.9 or 752128/125 = 6017.02, the moments 44,000 (293,328 less 249,328) and
+/// 44,007 (293,377 less 249,370).
+///
+/// At 262 4 mm² carry 15120·(133620 − 16800)/51000 = 34,633, and 5 already strain too little: 224000·5·420 is
+/// 470,400,000 and 51·1170·30·262 469,006,200. Mo is 592000/125 = 4736 or 592016/125 = 4736.1, the moments 34,632
+/// (230,880 less 196,248) and 34,640 (230,928 less 196,288).
+#[test]
+fn no_area() {
+    for (inner_end, x_inner, y_inner, live) in [
+        (X_INNER_END, 499, 150, 24_507),
+        (Y_INNER_END, 150, 499, 14_500),
+    ] {
+        for (live, lack) in [(live, Lack::Bar), (live + 1, Lack::Area)] {
+            let floor = thick(x_inner, y_inner, 30_000, live).bytes();
+            assert_eq!(judge(&floor), (0, 0));
+            assert_eq!(each(&floor)[inner_end], Err(lack));
+            assert_refused(&floor, ALWAYS_SUFFICE, 17);
+        }
+    }
+}
+
+/// The same beams both ways: between the two limits of `no_bar` the y frames alone lack a bar, and the floor is refused
+/// 17 where Five had a schedule.
+#[test]
+fn no_bar_on_y_frames_alone() {
+    listed(&thick(499, 499, 26_437, 0));
+    for dead in [26_438, 27_729] {
+        let floor = thick(499, 499, dead, 0).bytes();
+        assert_eq!(judge(&floor), (0, 0));
+        let strips = each(&floor);
+        assert!(strips[..72].iter().all(Result::is_ok));
+        assert_eq!(strips[Y_INNER_END], Err(Lack::Bar));
+        assert_refused(&floor, ALWAYS_SUFFICE, 17);
+    }
+}
+
+/// Floors with light and heavy loads, with thin and thick slabs, in every layout.
+fn at_hand() -> Vec<Floor> {
+    let loaded = |(t, dead, live)| Floor {
+        t,
+        dead,
+        live,
+        ..Floor::clear(3, 4)
+    };
+    let mut floors: Vec<Floor> = [
+        (200, 5_000, 2_000),
+        (200, 8_000, 5_000),
+        (200, 12_000, 5_000),
+        (187, 4_000, 8_000),
+        (500, 20_000, 20_000),
+    ]
+    .map(loaded)
+    .into();
+    for (x_lines, y_lines) in [("0000", "0000"), ("1001", "1001"), ("1111", "1111")] {
+        floors.push(Floor {
+            dead: 9_000,
+            live: 9_000,
+            ..unlike(x_lines, y_lines)
+        });
+    }
+    floors.push(short(697, 499));
+    floors.push(thick(499, 150, 27_729, 0));
+    floors
+}
+
+/// The area, diameter and spacing at this depth, for the width and the moment that the entry has.
+fn at_depth(floor: &Floor, entry: &Numbers, d: u32) -> [u32; 3] {
+    let [width, moment, t, d] = [entry[3], entry[4], floor.t, d].map(u128::from);
+    let (refused, area) = steel(moment, width, t, d, floor.fc.into(), floor.fy.into());
+    assert_eq!(refused, 0, "{entry:?}");
+    let (diameter, spacing) = bar_and_spacing(width, area, t).expect("a bar");
+    [area, diameter, spacing].map(|number| number as u32)
+}
+
+/// "In the schedule these are the x frames, and it is shown that their records read as before; y frames keep 0 and are
+/// worked afresh." (02, Six) Before, by Five, every area was "the steel answer for that moment and width at d = 0", and
+/// 0 stood for t − 26.
+#[test]
+fn x_records_as_before_and_y_records_afresh() {
+    let mut seen = BTreeSet::new();
+    for floor in at_hand() {
+        let x_entries = 6 * floor.x_spans.len() * floor.x_lines.len();
+        for (place, entry) in listed(&floor).iter().enumerate() {
+            let five = at_depth(&floor, entry, floor.t - 26);
+            if place < x_entries {
+                assert_eq!(entry[5..], five, "{floor:?}");
+                continue;
+            }
+            let second_layer = at_depth(&floor, entry, floor.t - 38);
+            assert_eq!(entry[5..], second_layer, "{floor:?}");
+            let [area, diameter, spacing] = [0, 1, 2].map(|at| five[at] == second_layer[at]);
+            seen.insert((area, diameter, spacing));
+        }
+    }
+    // The same by the minimum; more steel at the same bars, at closer ones, with thicker ones.
+    let all = [
+        (true, true, true),
+        (false, true, true),
+        (false, true, false),
+        (false, false, false),
+    ];
+    assert!(all.iter().all(|sort| seen.contains(sort)), "{seen:?}");
 }
 
 /// A wide beam on one line alone: "every" strip is looked at, that of the last record too.

@@ -1,4 +1,4 @@
-//! "Slab steel"
+//! "Slab steel", with "The default depth." (02, Six)
 
 use reference::steel::{answer, depth, k, moment_is_carried, steel, Query};
 
@@ -21,15 +21,46 @@ fn figures_of_01() {
     assert_eq!(steel(20_000_000, 1_000, 150, 124, 30, 420), (12, 0));
 }
 
-/// "d = 0 stands for t − 26": 124 of 150.
+/// "From now on 0 stands for t − 38" (02, Six): 112 of 150, where M 2,195,000 takes 540, which carry 2041200·54852000 /
+/// 51000000 = 2,195,370; 539 carry 2037420·54856200/51000000 = 2,191,472.
 #[test]
 fn depth_by_default() {
-    assert_eq!(depth(Query { d: 0, ..strip(0) }), 124);
+    assert_eq!(depth(Query { d: 0, ..strip(0) }), 112);
     assert_eq!(depth(Query { d: 125, ..strip(0) }), 125);
-    assert_eq!(steel(2_195_000, 1_000, 150, 0, 30, 420), (0, 484));
-    for d in [123, 125] {
+    assert_eq!(steel(2_195_000, 1_000, 150, 0, 30, 420), (0, 540));
+    for d in [111, 113, 124] {
         let (refused, area) = steel(2_195_000, 1_000, 150, d, 30, 420);
-        assert!(refused == 0 && area != 484, "d {d}: {area}");
+        assert!(refused == 0 && area != 540, "d {d}: {area}");
+    }
+}
+
+/// "At t = 90 the default is 52, still in range." The least areas are 1.8·t: 162, 163.8, 270 and 900. At these depths
+/// they carry 612360·25839600, 619920·26341200, 1020600·55986000 and 3402000·231840000 of 51000000: 310,257.6;
+/// 320,185.03; 1,120,378.7 and 15,465,091.8. With 1 mm less of depth they carry thousands less, with 1 mm more
+/// thousands more.
+#[test]
+fn default_depth_by_slab() {
+    for (t, d, m, least) in [
+        (90, 52, 310_257, 162),
+        (91, 53, 320_185, 164),
+        (150, 112, 1_120_378, 270),
+        (500, 462, 15_465_091, 900),
+    ] {
+        let with = |m, d| answer(Query { t, d, ..strip(m) });
+        assert_eq!(
+            depth(Query {
+                t,
+                d: 0,
+                ..strip(0)
+            }),
+            d
+        );
+        for d in [0, d] {
+            assert_eq!(with(m, d), (0, least), "t {t}");
+            assert_eq!(with(m + 1, d), (0, least + 1), "t {t}");
+        }
+        assert_ne!(with(m, d - 1), (0, least), "t {t}");
+        assert_eq!(with(m + 1, d + 1), (0, least), "t {t}");
     }
 }
 
@@ -120,11 +151,11 @@ fn depths_up_to_25_less_than_the_slab() {
     }
 }
 
-/// For t below 25 neither t − 25 nor t − 26 is a number.
+/// For t below 38 t − 38 is no number, and for t below 25 t − 25 is none either.
 #[test]
 fn slabs_thinner_than_their_cover() {
     for t in 0..90 {
-        for d in [0, 1, 50, 64] {
+        for d in [0, 1, 50, 52, 64] {
             assert_eq!(refusal(Query { t, d, ..strip(0) }), 11, "t {t}, d {d}");
         }
     }

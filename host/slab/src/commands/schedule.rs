@@ -17,8 +17,9 @@ pub const COMMAND: Command = Command {
     help: "\
 Lists the bars of a clear floor, frame by frame: of each section of each span, for the slab of the
 column strip and for the middle strip, the width, the moment, the area of steel that it needs and
-the bars, as `10 mm @ 150`: 10, 12 or 16 mm, and the spacing from bar to bar in mm. FLOOR is a floor
-file, or a text as `slab make` takes it.
+the bars, as `10 mm @ 150`: 10, 12 or 16 mm, and the spacing from bar to bar in mm. The areas are for
+bars along x next to the face of the slab and bars along y inside them; a note has their depths.
+FLOOR is a floor file, or a text as `slab make` takes it.
 
   slab schedule garage.floor
   slab schedule garage.floor --out garage.bars

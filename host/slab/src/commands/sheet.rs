@@ -19,9 +19,10 @@ Writes the moments of a clear floor, frame by frame: of each span the three sect
 support the larger moment of its two faces. Each stands as total, column strip, middle strip, beam
 and slab of the column strip, in kN·m and never rounded down, with the side of the slab, top or
 bottom, where the steel lies. Beside the sections stand the bars of their two strips, diameter @
-spacing in mm; where some strip cannot be barred the sheet says so, and has none (`slab schedule`
-names the strip). The text has the exact number in N·cm beside each moment; with --html the sheet is
-a page to print. FLOOR is a floor file, or a text as `slab make` takes it.
+spacing in mm, and a note says at what depth the bars along x and along y lie; where some strip
+cannot be barred the sheet says so, and has none (`slab schedule` names the strip). The text has the
+exact number in N·cm beside each moment; with --html the sheet is a page to print. FLOOR is a floor
+file, or a text as `slab make` takes it.
 
   slab sheet garage.floor
   slab sheet --html --name 'Garage, level 2' garage.floor -o garage.html

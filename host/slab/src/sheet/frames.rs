@@ -6,6 +6,7 @@ use crate::way::Way;
 use floor::Floor;
 
 pub struct Frame {
+    pub way: Way,
     pub name: String,
     /// The name, and which way the spans go.
     pub title: String,
@@ -70,6 +71,7 @@ fn frame(found: Found, way: Way, line: usize) -> Frame {
     let name = name(floor, way, line);
     let [low, high] = way.ends();
     Frame {
+        way,
         title: format!("{name}: spans from {low} to {high}"),
         name,
         bar_heads: schedule.map_or(&[], |_| &BAR_HEADS),

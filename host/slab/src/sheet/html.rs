@@ -31,21 +31,22 @@ fn article(sheet: &Sheet) -> String {
     let (class, rest) = match &sheet.content {
         Content::Clear {
             facts,
-            unbarred,
+            bars,
             frames,
-        } => ("clear", clear(facts, unbarred, frames)),
+        } => ("clear", clear(facts, bars, frames)),
         Content::Broken(sentences) => ("broken", broken(sentences)),
     };
     format!("<article class=\"sheet {class}\">\n{head}{rest}</article>\n")
 }
 
-fn clear(facts: &str, unbarred: &Option<String>, frames: &[Frame]) -> String {
-    let why = unbarred.iter().map(|why| element("p", "unbarred", why));
+fn clear(facts: &str, bars: &Result<String, String>, frames: &[Frame]) -> String {
+    let why = bars.as_ref().err();
+    let why = why.map(|why| element("p", "unbarred", why));
     let head = [
         element("p", "facts", facts),
         element("p", "standing", CLEAR),
-        why.collect(),
-        element("p", "notes", &notes("", unbarred)),
+        why.unwrap_or_default(),
+        element("p", "notes", &notes("", bars)),
     ];
     let frames: String = frames.iter().map(frame).collect();
     head.concat() + &frames

@@ -1,7 +1,7 @@
 //! The bar schedule as text, for a person: of every strip its width, moment, area of steel and bars.
 
 use super::units::kn_m_of_n_cm;
-use super::{facts, frames, Found, Frame, Row, Span};
+use super::{facts, frames, layers, Found, Frame, Row, Span};
 use crate::judge::{Bars, Held, Schedule};
 
 const NOTES: &str =
@@ -35,7 +35,7 @@ pub fn text(name: &str, held: &Held, schedule: &Schedule) -> String {
     let mut lines = vec![
         format!("{name}: bar schedule, {} records", schedule.records()),
         facts(&floor),
-        NOTES.to_string(),
+        format!("{NOTES} {}", layers::note(floor.t)),
     ];
     lines.extend(frames.iter().flat_map(frame));
     lines.iter().map(|line| format!("{line}\n")).collect()

@@ -16,12 +16,12 @@ pub fn text(sheet: &Sheet) -> String {
     match content {
         Content::Clear {
             facts,
-            unbarred,
+            bars,
             frames,
         } => {
             lines.extend([facts.clone(), CLEAR.to_string()]);
-            lines.extend(unbarred.clone());
-            lines.push(notes(", and after each the exact number in N·cm", unbarred));
+            lines.extend(bars.clone().err());
+            lines.push(notes(", and after each the exact number in N·cm", bars));
             lines.extend(frames.iter().flat_map(frame));
         }
         Content::Broken(sentences) => {

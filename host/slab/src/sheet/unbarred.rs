@@ -1,9 +1,10 @@
 //! Which strips of a clear floor cannot be barred, by the library's answers: the schedule of the same floor under the least loads has the
-//! widths, the floor's own table the moments, and a steel query says of each pair whether an area fits.
+//! widths, the floor's own table the moments, and a steel query at the depth of their bars says of each pair whether an area fits.
 
 use super::units::kn_m_of_n_cm;
-use super::{frames, Found, Frame, Row};
+use super::{frames, layers, Found, Frame, Row};
 use crate::judge::{Bars, Held, Schedule};
+use crate::way::Way;
 use floor::Floor;
 use gandhrumil::Query;
 
@@ -49,7 +50,7 @@ fn of_frame(floor: &Floor, frame: &Frame) -> Vec<String> {
     for span in &frame.spans {
         for row in &span.rows {
             for (strip, width, moment) in strips(row) {
-                let Some(why) = why(floor, width, moment) else {
+                let Some(why) = why(floor, frame.way, width, moment) else {
                     continue;
                 };
                 let (name, number, section) = (&frame.name, span.number, &row.section);
@@ -75,17 +76,11 @@ fn strips(row: &Row) -> Vec<(&'static str, u32, u32)> {
 }
 
 /// Nothing where it can be barred.
-fn why(floor: &Floor, width: u32, moment: u32) -> Option<String> {
+fn why(floor: &Floor, way: Way, width: u32, moment: u32) -> Option<String> {
     let Floor { t, fc, fy, .. } = *floor;
-    let [m, b, t, fc, fy] = [moment, width, t, fc, fy].map(u64::from);
-    let answer = gandhrumil::steel(Query {
-        m,
-        b,
-        t,
-        d: 0,
-        fc,
-        fy,
-    });
+    let d = layers::asked_depth(way, t);
+    let [m, b, t, d, fc, fy] = [moment, width, t, d, fc, fy].map(u64::from);
+    let answer = gandhrumil::steel(Query { m, b, t, d, fc, fy });
     let area = answer.value;
     match answer.refusal {
         0 if LARGEST_BAR * b >= u64::from(area) * CLOSEST => None,

@@ -10,6 +10,7 @@ mod folds;
 mod garage;
 mod help;
 mod inputs;
+mod layers;
 mod page;
 mod places;
 mod plain;

@@ -1,6 +1,7 @@
 //! The bar schedule, as text and as the file for the yard, held against the independent implementation.
 
 use crate::check::inputs;
+use crate::layers;
 use crate::run::{root, scratch, slab, slab_on, Ran};
 use crate::sheet_parts::kn_m;
 use cases::floors::Described;
@@ -89,6 +90,8 @@ fn expect_barred(description: &str, file: &[u8], bytes: &[u8]) {
     );
     let right: Vec<_> = entries(file).unwrap().iter().map(right_row).collect();
     assert_eq!(rows(listed.words()), right, "{description}");
+    let depths = layers::depths(listed.words()).expect("the note of the layers");
+    layers::expect_areas(description, file, depths);
 }
 
 fn expect_refused(description: &str, file: &[u8], number: u128) {
@@ -133,6 +136,21 @@ x line 0, south edge: spans from west to east
   span 1, 7200 mm
 ";
 
+/// Both strips are 1,700 wide: 1,900 less 200, and 3,600 less 1,900. 756·200/420,000 of that are 612 mm², too few for two moments:
+/// As·(2340900 − 70·As) must reach 1,809,318,905 at the south end, where 791 makes 1,807,854,230 and 792 1,810,084,320, and 1,473,302,887
+/// between, where 641 makes 1,471,755,230 and 642 1,474,006,320. 79·1700/792 is 169, 79·1700/642 is 209. At the depth of the x bars 735 and 612
+/// would do.
+const A_SPAN_ALONG_Y: &str = "
+  span 3, 6400 mm
+    section        steel   strip   width, mm  moment, kN·m  area, mm²  bars
+    south end      top     column       1700         20.27        612  10 mm @ 210
+    south end      top     middle       1700         47.34        792  10 mm @ 160
+    between        bottom  column       1700         16.51        612  10 mm @ 210
+    between        bottom  middle       1700         38.55        642  10 mm @ 200
+    north end      top     column       1700          5.48        612  10 mm @ 210
+    north end      top     middle       1700          5.20        612  10 mm @ 210
+";
+
 #[test]
 fn the_text_of_the_garage() {
     let path = root("example/garage.floor");
@@ -145,7 +163,12 @@ fn the_text_of_the_garage() {
         rest.starts_with("slab 200 mm, concrete fc 30 MPa, "),
         "{rest}"
     );
+    let notes = rest.lines().nth(1).unwrap();
+    assert!(notes.ends_with(&format!(". {}", layers::NOTE)), "{notes}");
     assert!(words.contains(FIRST_SPAN), "{words}");
+    let (_, along_y) = words.split_once("\ny line 0, west edge").unwrap();
+    let (first, _) = along_y.split_once("\n\n").unwrap();
+    assert!(format!("{first}\n").ends_with(A_SPAN_ALONG_Y), "{first}");
     let titles = words.lines().filter(|line| line.contains(": spans from "));
     assert_eq!(titles.count(), 11);
     assert!(words.contains("\ny line 5, east edge: spans from south to north\n  span 0, 6000 mm\n"));

@@ -4,6 +4,8 @@ use crate::run::{root, scratch, slab, slab_on};
 use crate::schedule::wide_beams;
 use floor::Floor;
 use reference::schedule::{each, Lack};
+use reference::steel::steel;
+use reference::table::numbers;
 use std::fs;
 
 const SENTENCE: &str = "refused 17: in some strip the beam leaves no width for bars, or no steel area fits the moment, \
@@ -60,6 +62,18 @@ fn named(place: usize) -> String {
     )
 }
 
+/// The area of a strip whose width the rest of its line begins with: in x frames at t − 26, in y frames by default.
+fn needed(floor: &Floor, place: usize, rest: &str) -> u128 {
+    let (width, _) = rest.split_once(" mm ").unwrap();
+    let (record, section, strip) = (place / 6, place % 6 / 2, place % 2);
+    let part = [5, 3][strip];
+    let moment = numbers(&floor.bytes())[16 * record + 5 * section + part];
+    let [t, fc, fy] = [floor.t, floor.fc, floor.fy].map(u128::from);
+    let d = if record < 16 { t - 26 } else { 0 };
+    let (_, area) = steel(moment.into(), width.parse().unwrap(), t, d, fc, fy);
+    area
+}
+
 fn expect_named(floor: &Floor) -> Vec<Lack> {
     let lacks = lacks(floor);
     let lines = look(floor);
@@ -67,12 +81,13 @@ fn expect_named(floor: &Floor) -> Vec<Lack> {
     for (line, &(place, lack)) in lines.iter().zip(&lacks).take(4) {
         let start = named(place);
         assert!(line.starts_with(&start), "{line}, right is {start}");
+        let needed = needed(floor, place, &line[start.len()..]);
         let why = match lack {
-            Lack::Area => ": no steel area fits",
-            Lack::Bar => " mm² needed, more than bars of 16 mm @ 80 have",
+            Lack::Area => ": no steel area fits".to_string(),
+            Lack::Bar => format!(": {needed} mm² needed, more than bars of 16 mm @ 80 have"),
             Lack::Width => panic!("{line}"),
         };
-        assert!(line.ends_with(why), "{line}, right is {why}");
+        assert!(line.ends_with(&why), "{line}, right is {why}");
     }
     if lacks.len() > 4 {
         assert_eq!(lines[4], format!("and {} more", lacks.len() - 4));
@@ -80,13 +95,20 @@ fn expect_named(floor: &Floor) -> Vec<Lack> {
     lacks.into_iter().map(|(_, lack)| lack).collect()
 }
 
-/// From the lightest load at which it is refused 17, where 201/80 mm² for each mm are too few, to the heaviest, where the strain allows no area.
+/// From the lightest load at which it is refused 17, where 201/80 mm² for each mm are too few along y, and the lightest at which they are along x
+/// too, to the heaviest, where the strain allows no area.
 #[test]
 fn strips_by_name() {
-    let refused = |dead: &u32| !lacks(&loaded(*dead, 2 * dead)).is_empty();
-    let first = (1_000..25_000).step_by(20).find(refused).unwrap();
-    let of_the_first = expect_named(&loaded(first, 2 * first));
-    assert!(of_the_first.iter().all(|lack| *lack == Lack::Bar));
+    let lightest = |meant: fn(usize) -> bool| {
+        let mut loads = (1_000..25_000)
+            .step_by(20)
+            .map(|dead| loaded(dead, 2 * dead));
+        let lacking = |floor: &Floor| lacks(floor).iter().any(|&(place, _)| meant(place));
+        loads.find(lacking).unwrap()
+    };
+    let first = expect_named(&lightest(|_| true));
+    assert!(first.iter().all(|lack| *lack == Lack::Bar));
+    assert!(expect_named(&lightest(|place| place < 6 * 16)).len() > first.len());
     assert!(expect_named(&loaded(25_000, 50_000)).contains(&Lack::Area));
 }
 

@@ -1,6 +1,7 @@
 //! The sheet of every floor, as text and as a page, held against the independent implementation.
 
 use crate::check::inputs;
+use crate::layers;
 use crate::run::{root, slab, slab_on};
 use crate::sheet_parts::{article, kn_m, of_page, of_text, pieces, sheet, Numbers};
 use cases::floors::Described;
@@ -48,6 +49,9 @@ fn expect_clear(description: &str, file: &[u8]) {
     for words in [text.words(), page.words()] {
         let unbarred = words.contains("No bars are shown. Refused 17: ");
         assert_eq!(unbarred, bars.is_empty(), "{description}");
+        let t = sizes(file).t as u32;
+        let depths = (!unbarred).then_some([t - 26, t - 38]);
+        assert_eq!(layers::depths(words), depths, "{description}");
     }
 }
 

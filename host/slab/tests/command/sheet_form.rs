@@ -1,5 +1,6 @@
 //! What stands on a sheet beside the moments: its head, its tables, names that are no markup.
 
+use crate::layers;
 use crate::run::{root, scratch, slab, slab_on};
 use crate::schedule::wide_beams;
 use crate::sheet_parts::{article, pieces, sheet};
@@ -38,7 +39,8 @@ fn the_text_of_the_garage() {
     let ran = sheet(&[], &garage());
     let moments =
         "Moments in kN·m, rounded up to the next 0.01, and after each the exact number in N·cm.";
-    let head = format!("a floor\na day\n{FACTS}\n{CLEAR}\n{moments} {NOTES} {OF_BARS}\n");
+    let notes = [moments, NOTES, OF_BARS, layers::NOTE].join(" ");
+    let head = format!("a floor\na day\n{FACTS}\n{CLEAR}\n{notes}\n");
     assert!(
         ran.words().starts_with(&(head + FIRST_SPAN)),
         "{}",
@@ -78,11 +80,12 @@ fn the_page_of_the_garage() {
     assert!(page.starts_with("<!doctype html>\n"));
     assert!(page.contains("<meta charset=\"utf-8\">\n<title>a floor</title>\n"));
     assert!(page.contains(&format!("<style>\n{style}</style>")));
+    let layers = layers::NOTE;
     let head = format!(
         "<article class=\"sheet clear\">\n<div class=\"head\">\n<h1>a floor</h1>\n<p class=\"date\">a day</p>\n</div>\n\
          <p class=\"facts\">{FACTS}</p>\n\
          <p class=\"standing\">{CLEAR}</p>\n\
-         <p class=\"notes\">Moments in kN·m, rounded up to the next 0.01. {NOTES} {OF_BARS}</p>\n"
+         <p class=\"notes\">Moments in kN·m, rounded up to the next 0.01. {NOTES} {OF_BARS} {layers}</p>\n"
     );
     assert!(article(page).starts_with(&(head + FIRST_ROWS)), "{page}");
     assert!(page.contains(FIRST_SUPPORTS), "{page}");
@@ -139,7 +142,7 @@ fn the_frames_in_their_order() {
         .eq(right));
 }
 
-/// Of y line 0: the ends by name, and the x lines that cross.
+/// Of y line 0: the ends by name, the x lines that cross, and bars on those along x, worked out beside the schedule's.
 #[test]
 fn a_frame_along_y() {
     let ran = sheet(&[], &garage());
@@ -154,7 +157,17 @@ fn a_frame_along_y() {
         ],
         [4; 3]
     );
-    assert!(frame.contains("\n  span 3, 6400 mm, "));
+    let (_, last) = frame.split_once("\n  span 3, 6400 mm, ").unwrap();
+    let bars = last
+        .lines()
+        .skip(2)
+        .take(3)
+        .map(|row| &row[row.len() - 30..]);
+    assert!(bars.eq([
+        "10 @ 210              10 @ 160",
+        "10 @ 210              10 @ 200",
+        "10 @ 210              10 @ 210",
+    ]));
     assert!(frame.contains("\n     4  x line 4   top "));
     assert!(!frame.contains("\n     5 "));
 }

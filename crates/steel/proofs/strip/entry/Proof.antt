@@ -14,7 +14,6 @@ entry-spec =
     (tie.spec
     (λ c κs. search needs)
     (λ c κs. search needs)
-    (λ c. search needs)
     (λ c κs. search needs)
     (λ c. let p = c .before .before .before .pre in rw (c .before .before .strip-width .ensures) (fits (width-most _ _ (p .strip) (p .width)) tt))
-    (λ c. rw (c .reinforce .ensures, c .before .strip-moment .ensures, c .before .before .strip-width .ensures)))
+    (λ c. rw (c .reinforce .ensures, c .before .schedule-depth .ensures, c .before .before .strip-width .ensures, c .before .before .before .pre .moment-is)))

@@ -1,6 +1,7 @@
 //! A schedule over the library's openings and steel queries, by rules of which any one can be made wrong.
 
 use crate::clear::answer;
+use cases::places::Along;
 use floor::Floor;
 use gandhrumil::{Answer, Query};
 
@@ -21,8 +22,8 @@ pub struct Rules {
     pub taken: fn(u32, bool) -> u32,
     /// The moment of a strip.
     pub moment: fn(Section, usize) -> u32,
-    /// The effective depth that steel is asked for, of this slab.
-    pub depth: fn(u32) -> u32,
+    /// The effective depths that steel is asked for in this slab, of x frames and of y frames.
+    pub depths: fn(u32) -> [u32; 2],
     /// Of a bar's area, by width, area and slab.
     pub spacing: fn(u32, u32, u32, u32) -> Option<u32>,
 }
@@ -31,7 +32,7 @@ pub const RIGHT: Rules = Rules {
     order: [16, 15, 17],
     taken: |b, outer| if outer { b.div_ceil(2) } else { b },
     moment: |[_, _, middle, _, slab], strip| [slab, middle][strip],
-    depth: |_| 0,
+    depths: |t| [t - 26, 0],
     spacing: |bar, width, area, t| largest_spacing(bar, width, area, 80, 2 * t),
 };
 
@@ -44,14 +45,15 @@ pub fn largest_spacing(bar: u32, width: u32, area: u32, least: u32, most: u32) -
 
 /// A span, and what is beside it.
 struct Span {
+    along: Along,
     w: u32,
     wc: u32,
     beam: u32,
     outer: bool,
 }
 
-/// Those of the x frames.
-fn x_spans(floor: &Floor) -> Vec<Span> {
+/// Those of the x frames, or with x and y changed round those of the y frames, as `along` says.
+fn x_spans(floor: &Floor, along: Along) -> Vec<Span> {
     let last = floor.y_spans.len();
     let mut spans = Vec::new();
     for (line, &(beam, _)) in floor.x_lines.iter().enumerate() {
@@ -61,6 +63,7 @@ fn x_spans(floor: &Floor) -> Vec<Span> {
         for &l1 in &floor.x_spans {
             let quarters = beside.iter().map(|&span| span.min(l1) / 4);
             spans.push(Span {
+                along,
                 w: beside.iter().sum::<u32>() / 2 + past,
                 wc: quarters.sum::<u32>() + past,
                 beam,
@@ -74,8 +77,8 @@ fn x_spans(floor: &Floor) -> Vec<Span> {
 impl Rules {
     /// In their order, `None` where a strip cannot be barred.
     fn each(self, floor: &Floor, table: &[u32]) -> Vec<Option<Record>> {
-        let mut spans = x_spans(floor);
-        spans.extend(x_spans(&floor.transposed()));
+        let mut spans = x_spans(floor, Along::X);
+        spans.extend(x_spans(&floor.transposed(), Along::Y));
         let mut records = Vec::new();
         for (number, span) in spans.iter().enumerate() {
             for section in 0..3 {
@@ -95,7 +98,8 @@ impl Rules {
         let [record, section, strip] = place;
         let column = span.wc.checked_sub((self.taken)(span.beam, span.outer));
         let width = [column?, span.w - span.wc][strip as usize];
-        let [m, b, t64, d, fc, fy] = [moment, width, t, (self.depth)(t), fc, fy].map(u64::from);
+        let depth = (self.depths)(t)[span.along as usize];
+        let [m, b, t64, d, fc, fy] = [moment, width, t, depth, fc, fy].map(u64::from);
         let query = Query {
             m,
             b,
