@@ -1,10 +1,12 @@
 // What a call answers: a refusal number and a value (01, "Refusal numbers").
+#![tactic(auto)]
+
 ghost use Rattle.std.specs.Prelude.{◌≡◌};
 ghost use Rattle.answers.specs.Answers.{answer};
 
 // A refusal number, or 0 and what was asked; laid out as in C, for the product's face.
 #[repr(C)]
-#[derive(Drop)]
+#[derive(Clone, Copy)]
 pub struct Answer {
     pub refusal: u32,
     pub value: u32,

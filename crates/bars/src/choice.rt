@@ -6,7 +6,7 @@ ghost use Rattle.bars.specs.Asked.{Reinforced, Barred};
 use numbers::smaller;
 
 // A bar's diameter, and the distance from one to the next; both 0 where no bar allows a spacing.
-#[derive(Drop)]
+#[derive(Clone, Copy)]
 pub struct Bars {
     pub diameter: u32,
     pub spacing: u32,

@@ -6,7 +6,7 @@ ghost use Rattle.bars.specs.Entries.{number_bytes, entry_numbers, eight_of, four
 use changes::store_at;
 
 // The table record and the section that it is of, the strip, and what is laid there.
-#[derive(Drop)]
+#[derive(Clone, Copy)]
 pub struct Entry {
     pub record: u32,
     pub section: u32,

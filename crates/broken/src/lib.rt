@@ -1,5 +1,7 @@
 // Where a floor is broken: every place that breaks a limit, in the order limit, direction, j, i, four numbers each.
 // One walk serves to count the places and to write them.
+#![tactic(auto)]
+
 ghost use Rattle.std.specs.Prelude.{◌≡◌, ◌+◌, ◌≤◌};
 ghost use Rattle.floor.specs.Asked.{Accepted};
 ghost use Rattle.limits.specs.Places.{undirected, extent, broken_at};
@@ -83,7 +85,7 @@ fn broken_at(
     }
 }
 
-#[derive(Drop)]
+#[derive(Clone, Copy)]
 pub struct Place {
     pub limit: Limit,
     pub way: Way,

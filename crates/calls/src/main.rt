@@ -17,6 +17,8 @@
 // own; the others print refusal and value on a line, and after them `places` all the numbers of its slice, `schedule` all the bytes of its buffer.
 // The program stops at a batch without calls, which is what the end of the input reads as, at a length that its buffers have no room for, and at a
 // word that is no call.
+#![tactic(auto)]
+
 ghost use Rattle.std.specs.Prelude.{◌*◌, ◌≤◌, length};
 ghost use Rattle.tables.specs.Width.{record_width};
 ghost use Rattle.calls.specs.Shown.{Shown, Listable};

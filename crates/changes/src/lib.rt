@@ -1,5 +1,7 @@
 // A change to the floor (01, "Refusal numbers"): one record, judged in a copy, then stored.
 // Judging and storing stand apart, because the room of what is lent, 8 and 13, is tried between them by the layer above.
+#![tactic(auto)]
+
 ghost use Rattle.std.specs.Prelude.{◌≡◌, ◌≤◌, ◌+◌, length};
 ghost use Rattle.records.specs.Asked.{Small};
 ghost use Rattle.plan.specs.Asked.{Sized};
@@ -15,7 +17,7 @@ use plan::read::{Bays, bays_of};
 use records::kinds::{changeable, count_of, start_of, unlisted_zero};
 
 // A change that was judged: the number it is refused with, or 0 and the record that it replaces.
-#[derive(Drop)]
+#[derive(Clone, Copy)]
 pub struct Ruling {
     pub number: u32,
     pub place: u32,

@@ -1,5 +1,7 @@
 // Whether a floor is clear: a yes or no that stops at the first broken limit (02, Four). Every limit's test is one that the verdict or the panel
 // query uses too.
+#![tactic(auto)]
+
 ghost use Rattle.std.specs.Prelude.{◌≡◌};
 ghost use Rattle.floor.specs.Asked.{Accepted};
 ghost use Rattle.lines.specs.Asked.{Surveyed, AtPanel, FirstPanelAlphas};

@@ -1,6 +1,8 @@
 // The limits over all panels at once, by the extremes of the two directions: 2 of the spans, 32 of p and q. And the same limits of one panel, whose
 // extremes are its own numbers.
 // Some number of one list exceeds k times some number of another exactly where the largest of the one exceeds k times the least of the other.
+#![tactic(auto)]
+
 ghost use Rattle.std.specs.Prelude.{◌≡◌, ◌*◌, ◌≤◌, get_or};
 ghost use Rattle.lines.specs.Asked.{Surveyed, Ready, PanelAtHand, AtPanel};
 ghost use Rattle.limits.specs.Limits.{some_panel, slender_panel, unbalanced_panel, unbalanced};
@@ -20,7 +22,7 @@ const TWICE: u64 = 2;
 const FIVE_TIMES: u64 = 5;
 
 // The least and the most of some values.
-#[derive(Drop)]
+#[derive(Clone, Copy)]
 struct Ends {
     least: u64,
     most: u64,

@@ -3,6 +3,8 @@
 // Formulas stand here with their numbers. Whole floors come on standard input, one after another, in little-endian words of 4 bytes: the
 // floor's length, how many questions, the floor's bytes; and each question: the figure's number, what is asked, the printed figure. What is asked is 0, the
 // refusal; 1, the verdict; or 2 and above, a number of the table, counted from 2.
+#![tactic(auto)]
+
 mod alphas;
 mod areas;
 mod beams;

@@ -13,7 +13,7 @@ use plan::read::{Bays, bays_of};
 use records::kinds::{OFFSETS, SIZES, count_of, start_of};
 
 // What is checked in every record before the next check is tried.
-#[derive(Drop)]
+#[derive(Clone, Copy)]
 pub enum Check {
     Listed,
     Ranged,

@@ -1,4 +1,6 @@
 // The frames of a floor whose moments stand, written to the lent table line by line.
+#![tactic(auto)]
+
 pub mod span;
 
 ghost use Rattle.std.specs.Prelude.{◌≡◌, ◌+◌, ◌*◌, ◌-◌};

@@ -15,7 +15,7 @@ use tables::places::place_of;
 use tables::write::{WIDTH, write_at};
 
 // The numbers of its record; the direction; whether its line is an outer one, and the width of the beam there, 0 where there is none; wc and W.
-#[derive(Drop)]
+#[derive(Clone, Copy)]
 pub struct Span {
     pub numbers: [u32; WIDTH],
     pub way: Way,

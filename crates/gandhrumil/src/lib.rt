@@ -1,5 +1,7 @@
 // The product's face: what C and Rust call (include/gandhrumil.h). Every function takes any bytes, any slices and any numbers, and adds nothing of
 // its own to what the layer below promises.
+#![tactic(auto)]
+
 ghost use Rattle.std.specs.Prelude.{◌≡◌};
 ghost use Rattle.verdict.specs.Answers.{panel_of};
 ghost use Rattle.clear.specs.Answers.{clear_of};

@@ -1,5 +1,7 @@
 // Rules that every span or line of both directions keeps (refusals 6 and 7), and the layout of the beams.
 // `b` has the bays of the floor, which are read once for a call.
+#![tactic(auto)]
+
 ghost use Rattle.std.specs.Prelude.{◌≡◌, ◌≤◌, ◌*◌, ◌||◌, eqb, ltb, leb};
 ghost use Rattle.layouts.specs.declared.Rule.TheVariants.{Columns, Beams, Depth};
 ghost use Rattle.plan.specs.Asked.{Sized};
@@ -11,7 +13,7 @@ use plan::read::{Bays, bays_along, beam_depth, beam_width, last_line, span};
 use plan::ways::Way;
 
 // Beams on every line; on the four outer lines only; on none.
-#[derive(Drop)]
+#[derive(Clone, Copy)]
 pub enum Layout {
     Everywhere,
     OuterOnly,
@@ -19,7 +21,7 @@ pub enum Layout {
 }
 
 // What is asked of a span or a line.
-#[derive(Drop)]
+#[derive(Clone, Copy)]
 pub enum Rule {
     Columns,
     Beams(Layout),

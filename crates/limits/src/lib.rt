@@ -1,4 +1,6 @@
 // The limits on plain numbers, and the sum of what is broken (01, "The verdict").
+#![tactic(auto)]
+
 ghost use Rattle.std.specs.Prelude.{◌≡◌, ◌||◌, ◌≤◌, ◌<◌};
 ghost use Rattle.limits.specs.Asked.{Neighbours};
 ghost use Rattle.limits.specs.Limits.{too_few, unlike, exceeds, overloaded, bit, sum_of};
@@ -8,7 +10,7 @@ ghost use Rattle.limits.specs.Meaning.{number};
 use numbers::{either, larger, smaller};
 
 // In the order of their numbers.
-#[derive(Drop)]
+#[derive(Clone, Copy)]
 pub enum Limit {
     Few,
     Slender,

@@ -7,7 +7,7 @@ use layouts::{Layout, layout_told};
 use plan::read::{Bays, bays_of};
 use plan::ways::Way;
 
-#[derive(Drop)]
+#[derive(Clone, Copy)]
 pub struct Slab {
     pub layout: Layout,
     pub bays: Bays,

@@ -1,4 +1,6 @@
 // A floor and what is lent beside it: opening, and changes. Nothing is remembered: each call judges the floor afresh.
+#![tactic(auto)]
+
 ghost use Rattle.std.specs.Prelude.{cond, ◌&&◌, ◌≡◌, eqb};
 ghost use Rattle.numbers.specs.Records.{every};
 ghost use Rattle.limits.specs.Limits.{verdict};

@@ -1,4 +1,6 @@
 // Small decisions that every layer makes.
+#![tactic(auto)]
+
 ghost use Rattle.std.specs.Prelude.{◌≡◌, ◌&&◌, ◌||◌, min, max};
 ghost use Rattle.numbers.specs.Rounding.{up, Quotient};
 ghost use Rattle.numbers.specs.Tests.{same, within};

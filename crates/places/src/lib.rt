@@ -1,4 +1,6 @@
 // The limits that are looked at place by place: 4 at neighbouring spans, 8 at each column, 64 at each panel.
+#![tactic(auto)]
+
 ghost use Rattle.std.specs.Prelude.{◌≡◌, ◌+◌, get_or};
 ghost use Rattle.numbers.specs.Tests.{some};
 ghost use Rattle.plan.specs.declared.ways.Way.TheVariants.{X, Y};

@@ -1,4 +1,6 @@
 // The floor's numbers by name, the same for both directions. What is not there reads 0, so no reader asks that the floor was accepted.
+#![tactic(auto)]
+
 pub mod fields;
 pub mod read;
 pub mod ways;

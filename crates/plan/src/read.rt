@@ -10,7 +10,7 @@ use crate::ways::Way;
 use crate::{bays, ways};
 use records::kinds::{OFFSETS, start_of};
 
-#[derive(Drop)]
+#[derive(Clone, Copy)]
 pub struct Bays {
     pub x: u32,
     pub y: u32,

@@ -3,14 +3,14 @@ ghost use Rattle.std.specs.Prelude.{◌≡◌, ◌≤◌, ◌<◌};
 ghost use Rattle.plan.specs.Ways.{pick, across, span_kind, line_kind, part_of, side_unit};
 
 // Along x, west to east; along y, south to north.
-#[derive(Drop)]
+#[derive(Clone, Copy)]
 pub enum Way {
     X,
     Y,
 }
 
 // West or south is the low end, east or north the high end.
-#[derive(Drop)]
+#[derive(Clone, Copy)]
 pub enum End {
     Low,
     High,

@@ -18,7 +18,7 @@ fn stand_in(n: usize) -> usize
 }
 
 // What a read answered: how many bytes, 0 at the end of the input and where the read failed.
-#[derive(Drop)]
+#[derive(Clone, Copy)]
 struct Got {
     bytes: usize,
     failed: bool,
@@ -44,7 +44,7 @@ fn read_on(bytes: &mut [u8], at: usize) -> Got
 }
 
 // What was read: how many of the first bytes stand for it, whether it is all of the input, and whether a read failed.
-#[derive(Drop)]
+#[derive(Clone, Copy)]
 pub struct Input {
     pub bytes: usize,
     pub ended: bool,

@@ -1,4 +1,6 @@
 // The printing program (01): a floor from standard input; its refusal and verdict; at verdict 0 its table, a line for each record.
+#![tactic(auto)]
+
 mod input;
 
 ghost use Rattle.sheets.specs.Wrote.{Line};
@@ -22,7 +24,7 @@ const LARGEST: usize = 312 * WIDTH;
 const SUPPORTS: usize = 338 * SUPPORT;
 
 // Where the first line ends, and how many records follow.
-#[derive(Drop)]
+#[derive(Clone, Copy)]
 struct Start {
     end: usize,
     records: u32,

@@ -1,4 +1,6 @@
 // Lines of decimal numbers as text, in a lent buffer. Each function writes at a place and answers the place after its text.
+#![tactic(auto)]
+
 pub mod pieces;
 
 ghost use Rattle.std.specs.Prelude.{[], ◌∷◌, ◌+◌, ◌*◌, ◌≤◌, ◌<◌, length, take, drop};

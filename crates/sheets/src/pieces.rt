@@ -21,7 +21,7 @@ fn fitting(width: usize, left: usize) -> usize
 }
 
 // What went to standard output: whether every write took all that it was handed, and how many bytes those were.
-#[derive(Drop)]
+#[derive(Clone, Copy)]
 pub struct Sent {
     pub whole: bool,
     pub bytes: usize,

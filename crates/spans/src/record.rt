@@ -16,7 +16,7 @@ use tables::write::WIDTH;
 const FULLY_RESTRAINED: u32 = 2;
 
 // p at the low end, between and at the high end.
-#[derive(Drop)]
+#[derive(Clone, Copy)]
 pub struct Percents {
     pub low: u64,
     pub between: u64,

@@ -14,7 +14,7 @@ use plan::read::Bays;
 use plan::ways::{End, Way, across, pick};
 
 // Of its line: the spans on either side, 0 past an outer line, the column along and across, and the beam, of width 0 where there is none.
-#[derive(Drop)]
+#[derive(Clone, Copy)]
 pub struct LineView {
     pub outer: bool,
     pub below: u32,
@@ -26,7 +26,7 @@ pub struct LineView {
 }
 
 // Of an end: at an outer line, the code of that side and the beam there; otherwise zeros.
-#[derive(Drop)]
+#[derive(Clone, Copy)]
 pub struct EndView {
     pub outer: bool,
     pub code: u32,
@@ -35,7 +35,7 @@ pub struct EndView {
 }
 
 // The slab is the whole floor's.
-#[derive(Drop)]
+#[derive(Clone, Copy)]
 pub struct View {
     pub slab: Slab,
     pub line: LineView,

@@ -8,7 +8,7 @@ use stiffness::line::{column_strip_width, frame_width, transverse_span};
 use strips::span::{clear_length, span_ratio, static_moment, stiffness_ratio};
 
 // W, l2 and α of a line: the same for all its spans.
-#[derive(Drop)]
+#[derive(Clone, Copy)]
 pub struct LineWork {
     pub width: u64,
     pub l2: u64,
@@ -16,7 +16,7 @@ pub struct LineWork {
 }
 
 // Mo, A, R and wc of a span, and what else its sections need.
-#[derive(Drop)]
+#[derive(Clone, Copy)]
 pub struct SpanWork {
     pub moment: u64,
     pub a: u64,

@@ -1,4 +1,6 @@
 // Slab steel: the least whole area of a query; and the bar schedule of a floor (02, Five).
+#![tactic(auto)]
+
 mod areas;
 pub mod query;
 pub mod schedule;

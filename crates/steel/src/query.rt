@@ -6,7 +6,7 @@ use numbers::{both, larger, within};
 use records::ranges::materials_ok;
 
 // The moment m, in N·cm, on a width b of a slab of thickness t, at the depth d or, for 0, the default one.
-#[derive(Drop)]
+#[derive(Clone, Copy)]
 pub struct Query {
     pub m: u64,
     pub b: u64,

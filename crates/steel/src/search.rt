@@ -7,7 +7,7 @@ use answers::{Answer, refused_query, success};
 use numbers::rounded_up;
 
 // An area As carries the moment where 9·As·fy·(block − 10·As·fy) ≥ load; it is to lie from `least` to `most`.
-#[derive(Drop)]
+#[derive(Clone, Copy)]
 pub struct Limits {
     pub fy: u64,
     pub block: u64,

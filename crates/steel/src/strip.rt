@@ -12,7 +12,7 @@ use numbers::larger;
 use plan::ways::Way;
 
 // t, fc and fy of a floor.
-#[derive(Drop)]
+#[derive(Clone, Copy)]
 pub struct Materials {
     pub t: u64,
     pub fc: u64,
@@ -20,7 +20,7 @@ pub struct Materials {
 }
 
 // The area asked, and the bars; the diameter is 0 where there are none.
-#[derive(Drop)]
+#[derive(Clone, Copy)]
 pub struct Reinforcement {
     pub area: u32,
     pub diameter: u32,

@@ -5,7 +5,7 @@ ghost use Rattle.stiffness.specs.Sections.{area, cube, inertia, torsion, flange,
 
 use numbers::{larger, smaller};
 
-#[derive(Drop)]
+#[derive(Clone, Copy)]
 pub struct Section {
     pub width: u64,
     pub depth: u64,

@@ -6,7 +6,7 @@ ghost use Rattle.strips.specs.EndTable.{place_column, layout_row, end_row, end_p
 use layouts::Layout;
 
 // Where a section lies: the end-span table's columns.
-#[derive(Drop)]
+#[derive(Clone, Copy)]
 pub enum SpanPlace {
     OuterEnd,
     Between,

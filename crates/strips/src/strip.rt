@@ -47,7 +47,7 @@ pub fn outer_negative(a: u64, r: u64, b: u64) -> u64
 }
 
 // What the strips, the beam and the slab take of a section total, N·cm.
-#[derive(Drop)]
+#[derive(Clone, Copy)]
 pub struct Strips {
     pub total: u32,
     pub column: u32,

@@ -1,4 +1,6 @@
 // The governing negative at each support (02, request One), written to its lent slice from the table as it stands.
+#![tactic(auto)]
+
 ghost use Rattle.std.specs.Prelude.{◌≡◌, ◌+◌, ◌*◌, ◌-◌, ◌≤◌};
 ghost use Rattle.numbers.specs.Records.{put, written_from, every};
 ghost use Rattle.supports.specs.Governing.{support_width, five_from, governs, support_on, supports_of, last_of, support_count, support_first, support_at, governed};

@@ -7,7 +7,7 @@ use plan::ways::{Way, across, line_kind, span_kind};
 use records::kinds::LOADS;
 
 // Spans from `from` on, below `to`.
-#[derive(Drop)]
+#[derive(Clone, Copy)]
 pub struct Spans {
     pub from: u32,
     pub to: u32,

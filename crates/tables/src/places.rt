@@ -7,7 +7,7 @@ use plan::read::{Bays, along};
 use plan::ways::{Way, pick};
 
 // Where a span is found: on line `line` along `way`.
-#[derive(Drop)]
+#[derive(Clone, Copy)]
 pub struct Found {
     pub way: Way,
     pub line: u32,

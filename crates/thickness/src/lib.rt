@@ -1,4 +1,6 @@
 // Least thickness of a panel.
+#![tactic(auto)]
+
 ghost use Rattle.std.specs.Prelude.{◌≡◌, cond, ◌*◌, ◌/◌, ◌≤◌, ◌<◌, max, leb};
 ghost use Rattle.numbers.specs.Rounding.{up, Quotient};
 ghost use Rattle.thickness.specs.Asked.{Answered, ByTable, Middle, Multiple, PanelSizes, SlabMost};
@@ -7,7 +9,7 @@ ghost use Rattle.thickness.specs.LeastThickness.{grade_row, panel_column, diviso
 use numbers::{both, larger, rounded_up};
 
 // Outer panel without edge beams, outer with, inner.
-#[derive(Drop)]
+#[derive(Clone, Copy)]
 pub enum PanelPlace {
     Bare,
     Edged,
@@ -16,7 +18,7 @@ pub enum PanelPlace {
 
 // What the least thickness of a panel is worked out from; sn and ln are its shorter and longer clear spans, and `weak` says that it has an
 // outer line with α below 8000 (02, Three).
-#[derive(Drop)]
+#[derive(Clone, Copy)]
 pub struct Panel {
     pub everywhere: bool,
     pub place: PanelPlace,
@@ -59,7 +61,7 @@ pub fn divisor(fy: u64, place: PanelPlace) -> u64
 }
 
 // What a rule asks of t: n ≤ t·d, and t is `least` or more.
-#[derive(Drop)]
+#[derive(Clone, Copy)]
 struct Bound {
     n: u64,
     d: u64,

@@ -1,4 +1,6 @@
 // What is broken in a floor (01, "The verdict"), and the least thickness of its panels.
+#![tactic(auto)]
+
 ghost use Rattle.std.specs.Prelude.{◌≡◌, ◌≤◌};
 ghost use Rattle.floor.specs.Asked.{Accepted};
 ghost use Rattle.lines.specs.Lines.{panel_thickness};
