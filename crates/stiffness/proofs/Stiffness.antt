@@ -9,7 +9,7 @@ use mathlib.Core.Bool.{Bool, true, false}
 use native.Mathlib.Nat.{le_trans, mul-le-mul_left, mul_assoc, mul-pos, div-le_of_le-mul}
 use native.Mathlib.Decide.{dec_lt}
 use native.Mathlib.Omega.{arith}
-use borrow.Author.Rules.{zero≤}
+use Prim.Native.Nat.{zero-le}
 use Rattle.numbers.proofs.Bounded.{◌⊗◌, ◌⊖◌, #, over, cubed}
 use Rattle.numbers.proofs.Tests.{says_eq, by_test}
 use Rattle.stiffness.specs.Asked.{Beam, Flanged, Frame, Part}
@@ -106,7 +106,7 @@ apart_reached = refl
 -- ---- α
 
 none_most : (b : ℕ) {n m : ℕ} → (0 < b → n ≤ m) → of_beam b n ≤ m
-none_most b {m = m} h = by_test (λ n. n ≤ m) (says_eq b 0) (λ e. zero≤) (λ e. h (omega arith))
+none_most b {m = m} h = by_test (λ n. n ≤ m) (says_eq b 0) (λ e. zero-le) (λ e. h (omega arith))
 
 pub overhang_in : (outer : Bool) (h t : ℕ) → overhang outer h t ≤ 2 * flange h t
 overhang_in true h t = omega arith

@@ -9,16 +9,13 @@ use borrow.Author.Tests.{le-leb, lt-leb}
 use Rattle.numbers.specs.Rounding.{up}
 use Rattle.numbers.proofs.Rounded.{says_up}
 use Rattle.numbers.proofs.Tests.{says_le, says_one}
-use Rattle.thickness.proofs.reaches.Statement.{statement}
-use Rattle.thickness.proofs.reaches.Tie as tie
+use Rattle.thickness.proofs.reaches.Goals as goal
 
 two_tests : (n d m t : ℕ) → 0 < d → leb (max m (up n d)) t ≡ (leb m t && leb n (t * d))
 two_tests n d m t pos = says_one (says_le (max m (up n d)) t) (says_up n m t pos)
 
-pub reaches_spec : {M : Type 1} → statement M
-reaches_spec =
-    tie.close
-    (tie.spec
-    (λ c. search rules)
-    (λ c. let a = c.before.args in rw (two_tests a.n a.d a.m a.t c.before.requires.positive, le-leb _ _ c.if1.true))
-    (λ c. let a = c.before.args in rw (two_tests a.n a.d a.m a.t c.before.requires.positive, lt-leb _ _ c.if1.false)))
+pub returns-then-m-t : goal.returns-then-m-t
+returns-then-m-t c = let a = c.args in rw (two_tests a.n a.d a.m a.t c.requires.positive, le-leb _ _ c.if-m-t.true)
+
+pub returns-else-m-t : goal.returns-else-m-t
+returns-else-m-t c = let a = c.args in rw (two_tests a.n a.d a.m a.t c.requires.positive, lt-leb _ _ c.if-m-t.false)
