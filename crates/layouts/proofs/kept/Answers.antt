@@ -1,0 +1,9 @@
+-- Each callee's equation in turn.
+-- Assumes nothing.
+use Rattle.layouts.specs.Layouts.{kept}
+use borrow.Author.Rules.{rules}
+use Rattle.layouts.proofs.kept.Goals as goal
+
+pub returns : goal.returns
+unfolding kept
+returns c = cc

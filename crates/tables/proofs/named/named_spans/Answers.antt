@@ -1,0 +1,46 @@
+-- The branch taken says of which kind the change is, and each kind decides alone (Naming).
+-- Assumes nothing.
+use Prim.Native.Nat.{◌+◌}
+use mathlib.Core.Bool.{◌||◌}
+use mathlib.Core.Logic.{⊎_elim}
+use mathlib.Core.Path.{◌≡◌, sym, ap, ◌∙◌}
+use lib.Dec.{eqb}
+use borrow.Author.Tests.{eq-eqb, ne_eqb}
+use Rattle.tables.specs.Named.{whole_if}
+use Rattle.tables.proofs.Naming.{at_loads, at_own_span, at_span_across, at_own_line, at_line_across, at_rest}
+use borrow.Author.Rules.{rules}
+use Rattle.tables.proofs.named.named_spans.Goals as goal
+
+returns-3 : goal.returns-then-kind-span_kind-2
+returns-3 c =
+    let a = c.args in
+    let test : c.if-l-index.whole-if ≡ (eqb a.l a.index || eqb a.l (a.index + 1)) =
+    ⊎_elim (λ h. h.1 ∙ eq-eqb _ _ h.0.taken ∙ rw (eq-eqb _ _ h.0.taken)) (λ h. rw (ne_eqb _ _ h.0.left) h.1) c.if-l-index.branch in
+    c.whole_if.ensures ∙ ap (λ b. whole_if b a.n) test ∙ sym (at_span_across _ _ _ _ _ (cc))
+
+returns-6 : goal.returns
+returns-6 c =
+    sym (at_rest _ _ _ _ _
+    (λ e. c.if-kind-eq-LOADS.false e)
+    (λ e. c.if-kind-span_kind.false (cc))
+    (λ e. c.if-kind-span_kind-2.false (cc))
+    (λ e. c.if-kind-line_kind.false (cc))
+    (λ e. c.if-kind-line_kind-2.false (cc)))
+
+pub returns-then-kind-eq-LOADS : goal.returns-then-kind-eq-LOADS
+returns-then-kind-eq-LOADS c = c.all_spans.ensures ∙ sym (at_loads _ _ _ _ _ c.if-kind-eq-LOADS.true)
+
+pub returns-then-kind-span_kind : goal.returns-then-kind-span_kind
+returns-then-kind-span_kind c = sym (at_own_span _ _ _ _ _ (c.if-kind-span_kind.true ∙ c.span_kind.ensures))
+
+pub returns-then-kind-span_kind-2 : goal.returns-then-kind-span_kind-2
+returns-then-kind-span_kind-2 c = returns-3 c
+
+pub returns-then-kind-line_kind : goal.returns-then-kind-line_kind
+returns-then-kind-line_kind c = c.whole_if-then-kind-line_kind.ensures ∙ sym (at_own_line _ _ _ _ _ (c.if-kind-line_kind.true ∙ c.line_kind.ensures))
+
+pub returns-then-kind-line_kind-2 : goal.returns-then-kind-line_kind-2
+returns-then-kind-line_kind-2 c = c.end_span.ensures ∙ sym (at_line_across _ _ _ _ _ (cc))
+
+pub returns : goal.returns
+returns c = returns-6 c
