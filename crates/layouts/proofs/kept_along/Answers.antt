@@ -17,11 +17,11 @@ loop-i-init c = (search rules, none _ _)
 pub returns-then-not-keeps : goal.returns-then-not-keeps
 unfolding kept_along
 returns-then-not-keeps c = rw (← c.asked-n.ensures.0)
-    (sym (found false _ _ _ c.loop-i-test.true (sym c.keeps.ensures ∙ not-true _ c.if-not-keeps.true)))
+    (sym (found false _ _ _ c.loop-i-test.true (sym c.keeps.ensures ∙ c.if-not-keeps.true)))
 
 pub loop-i-preserved : goal.loop-i-preserved
 unfolding kept_along
-loop-i-preserved c = (search rules, more false _ _ c.loop-i.invariant.1 (sym c.keeps.ensures ∙ not-false _ c.if-not-keeps.false))
+loop-i-preserved c = (search rules, more false _ _ c.loop-i.invariant.1 (sym c.keeps.ensures ∙ c.if-not-keeps.false))
 
 pub returns : goal.returns
 unfolding kept_along

@@ -10,10 +10,8 @@ use Rattle.numbers.proofs.Tests.{none, more, found, done}
 use Rattle.layouts.specs.Layouts.{keeps, kept_along}
 use Rattle.layouts.proofs.kept_along.Given as goal
 
-abbrev pub invariant-loop : goal.invariant-loop
--- OLD ARGS ['f', 'b', 'd', 'rule', 'n', 'i₀', 'i']
-invariant-loop l = (i ≤ n) × (all i (λ j. keeps f d rule j) ≡ true)
+abbrev pub invariant-loop-i : goal.invariant-loop-i
+invariant-loop-i l = (l.i ≤ l.n) × (all l.i (λ j. keeps l.f l.d l.rule j) ≡ true)
 
-abbrev pub decreases-loop : goal.decreases-loop
--- OLD ARGS ['f', 'b', 'd', 'rule', 'n', 'i₀', 'i']
-decreases-loop l = n - i
+abbrev pub decreases-loop-i : goal.decreases-loop-i
+decreases-loop-i l = l.n - l.i
