@@ -1,0 +1,18 @@
+-- The loop stops at the first offset that fails the check.
+-- Assumes nothing.
+use Prim.Native.Nat.{◌≤◌, ◌-◌, ◌+◌}
+use mathlib.Core.Bool.{true, false}
+use mathlib.Core.Path.{◌≡◌, sym, ◌∙◌}
+use borrow.Author.Rules.{rules}
+use borrow.Author.Tests.{not-true, not-false}
+use Rattle.numbers.specs.Tests.{all}
+use Rattle.numbers.proofs.Tests.{none, more, found, done}
+use Rattle.records.specs.Kinds.{offset_kind}
+use Rattle.floor.specs.Refusal.{record_ok, kind_ok}
+use Rattle.floor.proofs.refusal.offsets_ok.Given as goal
+
+abbrev pub invariant-loop-i : goal.invariant-loop-i
+invariant-loop-i l = (l.i ≤ l.n) × (all l.i (λ j. record_ok l.f l.check offset_kind j (l.from + j)) ≡ true)
+
+abbrev pub decreases-loop-i : goal.decreases-loop-i
+decreases-loop-i l = l.n - l.i
