@@ -1,6 +1,6 @@
 // The panel of x bay i and y bay j, and its least thickness.
 ghost use Rattle.std.specs.Prelude.{◌≡◌, ◌&&◌, ◌||◌, ◌+◌, ◌-◌, ◌≤◌, ◌<◌, leb, get_or};
-ghost use Rattle.plan.specs.declared.ways.Way.TheVariants.{X, Y};
+ghost use Rattle.plan.specs.declared.ways.Way.TheVariants.{X as AlongX, Y as AlongY};
 ghost use Rattle.plan.specs.Plan.{thickness};
 ghost use Rattle.layouts.specs.Layouts.{outer_line};
 ghost use Rattle.lines.specs.Lines.{is_everywhere, weak_line, place_of, panel_view, panel_thickness};
@@ -74,7 +74,7 @@ fn weak_beside(last: u32, a: &[u64; 13], k: u32) -> bool
 // Is one of the panel's four lines weak? An inner panel has no outer line, so nothing is asked.
 fn weak_edge(outside: bool, bays: Bays, alphas: &[[u64; 13]; 2], i: u32, j: u32) -> bool
     requires { (i < 12) × (j < 12) }
-    ensures { result ≡ (outside && (weak_at bays.y (row_of alphas.now X) j || weak_at bays.x (row_of alphas.now Y) i)) }
+    ensures { result ≡ (outside && (weak_at bays.y (row_of alphas.now AlongX) j || weak_at bays.x (row_of alphas.now AlongY) i)) }
 {
     if outside {
         weak_beside(bays.y, &alphas[X], j) || weak_beside(bays.x, &alphas[Y], i)

@@ -1,0 +1,18 @@
+-- The loop's invariant: α of the lines passed is stored, and the other places are as they were.
+-- Assumes nothing.
+use Prim.Native.Nat.{◌+◌, ◌-◌, ◌≤◌}
+use mathlib.Core.Logic.{◌⊎◌, inl, inr}
+use mathlib.Core.Path.{◌≡◌, refl, ◌∙◌}
+use native.Mathlib.Omega.{arith}
+use lib.ListN.{length, length-set}
+use borrow.Author.Rules.{rules}
+use Rattle.lines.specs.Lines.{line_alpha}
+use Rattle.lines.proofs.Slabs.{line_index, line_before}
+use Rattle.lines.proofs.Filled.{Filled, one_more, Untouched, untouched, same_else, filled}
+use Rattle.lines.proofs.line.fill_along.Given as goal
+
+abbrev pub invariant-loop-l : goal.invariant-loop-l
+invariant-loop-l l = (l.from ≤ l.l) × (length l.a ≡ 13) × Filled (line_alpha l.f l.d) l.from l.l l.a × Untouched l.from l.l l.initial.a l.a × ((l.l ≤ l.to + 1) ⊎ (l.l ≤ l.from))
+
+abbrev pub decreases-loop-l : goal.decreases-loop-l
+decreases-loop-l l = l.to + 1 - l.l

@@ -1,0 +1,7 @@
+-- Each callee's equation in turn.
+-- Assumes nothing.
+use borrow.Author.Rules.{rules}
+use Rattle.lines.proofs.panel.weak_beside.Goals as goal
+
+pub returns : goal.returns
+returns c = cc
