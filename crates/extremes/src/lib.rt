@@ -46,8 +46,8 @@ fn ends_of(a: &[u64; 13], n: u32) -> Ends
 
 // Does some value between ends x exceed k times some value between ends y, or the other way round?
 fn ends_apart(x: Ends, y: Ends, k: u64) -> bool
-    requires ends_in { EndsIn x }
-    requires ends_in_2 { EndsIn y }
+    requires x_in { EndsIn x }
+    requires y_in { EndsIn y }
     requires ratio { Ratio k }
     ensures { result ≡ ends_apart k x y }
 {
@@ -56,8 +56,8 @@ fn ends_apart(x: Ends, y: Ends, k: u64) -> bool
 
 // Of two values.
 fn two_apart(x: u64, y: u64, k: u64) -> bool
-    requires value { Value x }
-    requires value_2 { Value y }
+    requires x_in { Value x }
+    requires y_in { Value y }
     requires ratio { Ratio k }
     ensures { result ≡ apart k x y }
 {
@@ -66,8 +66,8 @@ fn two_apart(x: u64, y: u64, k: u64) -> bool
 
 // Is there a pair, one of a's first n and one of b's first m, in which one exceeds k times the other?
 fn apart(a: &[u64; 13], n: u32, b: &[u64; 13], m: u32, k: u64) -> bool
-    requires values { Values a.now n }
-    requires values_2 { Values b.now m }
+    requires a_in { Values a.now n }
+    requires b_in { Values b.now m }
     requires ratio { Ratio k }
     ensures { result ≡ apart_some k a.now n b.now m }
 {

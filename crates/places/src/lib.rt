@@ -3,7 +3,7 @@
 
 ghost use Rattle.std.specs.Prelude.{◌≡◌, ◌+◌, get_or};
 ghost use Rattle.numbers.specs.Tests.{some};
-ghost use Rattle.plan.specs.declared.ways.Way.TheVariants.{X, Y};
+ghost use Rattle.plan.specs.declared.ways.Way.TheVariants.{X as AlongX, Y as AlongY};
 ghost use Rattle.plan.specs.Plan.{bays};
 ghost use Rattle.lines.specs.Asked.{Surveyed, Ready};
 ghost use Rattle.limits.specs.Limits.{some_panel, unlike_next, uneven, lesser_at, astray_along, astray_column, astray, thin_panel};
@@ -83,7 +83,7 @@ fn astray_at(f: &[u8], b: Bays, x: &[u64; 13], y: &[u64; 13], i: u32, j: u32) ->
 
 fn astray_in_row(f: &[u8], b: Bays, x: &[u64; 13], y: &[u64; 13], j: u32) -> bool
     requires { ColumnRow f.now b x.now y.now j }
-    ensures { result ≡ some (bays f.now X + 1) (λ i. astray_column f.now i j) }
+    ensures { result ≡ some (bays f.now AlongX + 1) (λ i. astray_column f.now i j) }
 {
     let n = b.x;
     let mut i: u32 = 0;

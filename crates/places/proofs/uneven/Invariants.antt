@@ -1,0 +1,17 @@
+-- The loop stops at the first two neighbours that are unlike.
+-- Assumes nothing.
+use Prim.Native.Nat.{◌≤◌, ◌-◌}
+use mathlib.Core.Bool.{true, false}
+use mathlib.Core.Path.{◌≡◌, sym, ◌∙◌}
+use native.Mathlib.Omega.{arith}
+use borrow.Author.Rules.{rules}
+use Rattle.numbers.specs.Tests.{some}
+use Rattle.numbers.proofs.Tests.{none, more, found, done}
+use Rattle.places.proofs.AtPlace.{unlike_at, bays_in, neighbours, uneven_is}
+use Rattle.places.proofs.uneven.Given as goal
+
+abbrev pub invariant-loop-k : goal.invariant-loop-k
+invariant-loop-k l = (l.k ≤ l.n - 1) × (some l.k (unlike_at l.s) ≡ false)
+
+abbrev pub decreases-loop-k : goal.decreases-loop-k
+decreases-loop-k l = l.n - 1 - l.k
