@@ -2,7 +2,6 @@
 -- Assumes nothing.
 use Prim.Native.Nat.{◌-◌, ◌≤◌}
 use mathlib.Core.Bool.{true, false}
-use mathlib.Core.Logic.{⊎_elim}
 use mathlib.Core.Path.{◌≡◌}
 use borrow.Author.Rules.{rules}
 use Rattle.numbers.specs.Tests.{some}
@@ -12,6 +11,7 @@ use Rattle.places.proofs.AtPlace.{panel_of, thin_row, row_thick, all_thick, one_
 use mathlib.Core.Path.{ap}
 use mathlib.Core.Bool.{not}
 use Rattle.places.proofs.thin.Goals as goal
+use Rattle.places.proofs.thin.Goals.{else-rows-test, then-rows-test+then-panels-test+then-not-thick_enough}
 
 pub rows-init : goal.rows-init
 rows-init c = (search rules, none true _)
@@ -34,4 +34,8 @@ pub returns : goal.returns
 returns c =
     let p = c.requires in
     let o = c.rows in
-    elim c.rows-test.branch [ then-x w ↦ ? | else-x w ↦ ? ]
+    elim c.rows-test.branch [
+      else-rows-test w ↦ all_thick p o.invariant.0 w.rows-test.false o.invariant.1
+      | then-rows-test+then-panels-test+then-not-thick_enough w ↦
+        one_thin p w.panels-test.true w.rows-test.true (thin_is _ _ _ w.thick_enough.ensures (ap not w.if-not-thick_enough.true))
+    ]
