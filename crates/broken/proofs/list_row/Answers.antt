@@ -1,0 +1,50 @@
+-- The loop's invariant: the places passed are listed, and no other.
+-- Assumes nothing.
+use Prim.Native.Nat.{◌+◌, ◌-◌, ◌≤◌, zero-le}
+use mathlib.Core.Logic.{⊎_elim}
+use mathlib.Core.Path.{sym, ◌∙◌}
+use native.Mathlib.Omega.{arith}
+use borrow.Author.Rules.{rules}
+use Rattle.broken.specs.Listing.{gathered, one_place}
+use Rattle.broken.specs.Laid.{Listed}
+use Rattle.broken.proofs.Tests.{bays_some, extent_most, at_place}
+use Rattle.broken.proofs.Laid.{found_turn, missed_turn, none, next, length_listed}
+use Rattle.broken.proofs.Walk.{row_done}
+use Rattle.broken.proofs.list_row.Goals as goal
+
+pub extent-last-requires : goal.extent-last-requires
+extent-last-requires c = bays_some c.requires.ready.surveyed
+
+pub loop-i-init : goal.loop-i-init
+loop-i-init c = (zero-le, none _ _ _, omega arith)
+
+pub broken_at-requires : goal.broken_at-requires
+broken_at-requires c = at_place c.requires c.extent-last.ensures (search rules)
+
+pub note-requires : goal.note-requires
+note-requires c = record { most = omega (arith, c.loop-i.invariant, extent_most c.requires.ready.surveyed c.args.limit c.args.d c.extent-last.ensures, c.requires.most) }
+
+pub overflow_add-m : goal.overflow_add-m
+overflow_add-m c = omega (arith, c.loop-i.invariant, extent_most c.requires.ready.surveyed c.args.limit c.args.d c.extent-last.ensures, c.requires.most)
+
+pub overflow_add-i : goal.overflow_add-i
+overflow_add-i c = omega (arith, c.loop-i.invariant, extent_most c.requires.ready.surveyed c.args.limit c.args.d c.extent-last.ensures)
+
+pub loop-i-preserved : goal.loop-i-preserved
+loop-i-preserved c = let l = c.loop-i in
+    let e = c.broken_at.ensures in
+    let q =
+    ⊎_elim (λ w. found_turn _ _ (sym e ∙ w.0.taken) (w.5 ∙ w.2.ensures) w.6)
+    (λ w. missed_turn _ _ (sym e ∙ w.0.left) w.1 w.2) c.if-broken_at.branch
+    in
+    (search rules, next l.i _ l.invariant.1 q.0, omega (arith, q.1, l.invariant.2))
+
+pub shape_of-places : goal.shape_of-places
+shape_of-places c = length_listed c.loop-i.invariant.1
+
+pub returns : goal.returns
+returns c = let l = c.loop-i in
+    let e = c.extent-last.ensures in (
+      row_done c.requires.ready.surveyed c.args.limit c.args.d e l.i c.args.j l.invariant.0 (search rules) l.invariant.1,
+      omega (arith, l.invariant, extent_most c.requires.ready.surveyed c.args.limit c.args.d e),
+    )
