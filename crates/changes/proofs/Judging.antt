@@ -1,12 +1,11 @@
 -- The three ways `judge` ends: the held floor is refused, the change does not fit it, or the changed floor decides.
 -- Assumes nothing.
 use Prim.Native.Nat.{ℕ}
-use mathlib.Core.Bool.{Bool, true, false, not}
+use mathlib.Core.Bool.{Bool, true, false}
 use mathlib.Core.List.{List}
 use mathlib.Core.Path.{◌≡◌, sym, ◌∙◌}
 use native.Mathlib.Omega.{arith}
-use borrow.Author.Tests.{not-false}
-use Rattle.numbers.proofs.Chains.{refused, passed, stands, decides}
+use Rattle.numbers.proofs.Chains.{stopped, went_on, stands, decides}
 use Rattle.plan.specs.declared.read.Bays.{Bays}
 use Rattle.plan.specs.Asked.{Sized}
 use Rattle.plan.specs.Plan.{bays_of}
@@ -30,13 +29,13 @@ module _ (f c : List ℕ) {m : ℕ} (em : m ≡ refusal f) where
     of_floor : ok ≡ change_ok (bays_of f) c
     of_floor = eo ∙ rw h.is
 
-    pub not_fitting : {r : Ruling} → not ok ≡ true → r ≡ ruling_of 9 0 → r ≡ ruling f c
+    pub not_fitting : {r : Ruling} → ok ≡ false → r ≡ ruling_of 9 0 → r ≡ ruling f c
     unfolding change_refusal change_checks refusal
-    not_fitting t er = told f c 9 0 er (decides (sound_floor f) _ em z (refused _ _ _ _ of_floor t)) (λ n. absurd (omega arith))
+    not_fitting t er = told f c 9 0 er (decides (sound_floor f) _ em z (stopped _ _ _ _ (sym of_floor ∙ t))) (λ n. absurd (omega arith))
 
-    module _ (t : not ok ≡ false) where
+    module _ (t : ok ≡ true) where
       fitting : Fitting f c
-      fitting = (says_change f c).holds (sym of_floor ∙ not-false _ t)
+      fitting = (says_change f c).holds (sym of_floor ∙ t)
 
       pub may_place : Indexed b c
       may_place = indexed f c fitting h
@@ -46,4 +45,4 @@ module _ (f c : List ℕ) {m : ℕ} (em : m ≡ refusal f) where
 
       pub copy_decides : {n q : ℕ} {r : Ruling} → q ≡ change_place b c → n ≡ values_refusal (changed f c) → r ≡ ruling_of n q → r ≡ ruling f c
       unfolding change_refusal change_checks refusal values_refusal
-      copy_decides {n} {q} eq en er = told f c n q er (decides (sound_floor f) _ em z (passed _ _ _ _ of_floor t en)) (λ _. eq ∙ rw h.is)
+      copy_decides {n} {q} eq en er = told f c n q er (decides (sound_floor f) _ em z (went_on _ _ _ _ (sym of_floor ∙ t) en)) (λ _. eq ∙ rw h.is)
