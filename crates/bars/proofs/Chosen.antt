@@ -5,7 +5,7 @@
 -- Assumes nothing.
 use Prim.Native.Nat.{ℕ, ◌*◌, ◌/◌, ◌≤◌, ◌<◌, min}
 use mathlib.Core.Path.{◌≡◌, refl, sym, ◌∙◌}
-use native.Mathlib.Decide.{dec_le, dec_lt, ℕ_discrete}
+use native.Mathlib.Decide.{dec_le, ℕ_discrete}
 use native.Mathlib.Nat.{le_trans, le_antisymm, mul_comm, mul-le-mul_left, mul-le-mul_right, le-div_iff_mul-le, div-mul-le_self}
 use native.Mathlib.Omega.{arith}
 use lib.Dec.{lit<}
