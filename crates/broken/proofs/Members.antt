@@ -5,7 +5,7 @@
 --     none_in, no_more               nothing is in the empty list, and in no other list
 -- Assumes nothing.
 use Prim.Native.Nat.{ℕ, zero, suc, ◌<◌}
-use mathlib.Core.Bool.{Bool, true}
+use mathlib.Core.Bool.{Bool, true, false}
 use mathlib.Core.List.{List, [], ◌∷◌, ◌++◌}
 use mathlib.Core.Logic.{◌⊎◌, inl, inr, ⊎_elim}
 use mathlib.Core.Path.{◌≡◌, refl}
@@ -45,6 +45,7 @@ module _ {p : Place} where
 
   pub gathered_at : (n : ℕ) (g : ℕ → List Place) → Among p (gathered n g) → Some n (λ k. Among p (g k))
   unfolding gathered
+  gathered_at zero g h = elim h [ ]
   gathered_at (suc n) g h =
       ⊎_elim (λ l. let r = gathered_at n g l in (r.0, omega (arith, r.1), r.2)) (λ r. (n, omega arith, r)) (among_split (gathered n g) h)
 
@@ -59,6 +60,8 @@ module _ {p : Place} where
 
 pub whether_holds : (b : Bool) {p q : Place} → Among q (whether b p) → (b ≡ true) × (q ≡ p)
 whether_holds true here = (refl, refl)
+whether_holds true (there h) = elim h [ ]
+whether_holds false h = elim h [ ]
 
 whether_has : {b : Bool} {p : Place} → b ≡ true → Among p (whether b p)
 whether_has e = rw e here

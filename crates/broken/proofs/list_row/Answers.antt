@@ -1,7 +1,6 @@
 -- The loop's invariant: the places passed are listed, and no other.
 -- Assumes nothing.
 use Prim.Native.Nat.{◌+◌, ◌-◌, ◌≤◌, zero-le}
-use mathlib.Core.Logic.{⊎_elim}
 use mathlib.Core.Path.{sym, ◌∙◌}
 use native.Mathlib.Omega.{arith}
 use borrow.Author.Rules.{rules}
@@ -11,6 +10,7 @@ use Rattle.broken.proofs.Tests.{bays_some, extent_most, at_place}
 use Rattle.broken.proofs.Laid.{found_turn, missed_turn, none, next, length_listed}
 use Rattle.broken.proofs.Walk.{row_done}
 use Rattle.broken.proofs.list_row.Goals as goal
+use Rattle.broken.proofs.list_row.Goals.{then-broken_at, else-broken_at}
 
 pub extent-last-requires : goal.extent-last-requires
 extent-last-requires c = bays_some c.requires.ready.surveyed
@@ -31,13 +31,17 @@ pub overflow_add-i : goal.overflow_add-i
 overflow_add-i c = omega (arith, c.loop-i.invariant, extent_most c.requires.ready.surveyed c.args.limit c.args.d c.extent-last.ensures)
 
 pub loop-i-preserved : goal.loop-i-preserved
-loop-i-preserved c = let l = c.loop-i in
+loop-i-preserved c =
+    let l = c.loop-i in
     let e = c.broken_at.ensures in
-    let q =
-    ⊎_elim (λ w. found_turn _ _ (sym e ∙ w.0.taken) (w.5 ∙ w.2.ensures) w.6)
-    (λ w. missed_turn _ _ (sym e ∙ w.0.left) w.1 w.2) c.if-broken_at.branch
-    in
-    (search rules, next l.i _ l.invariant.1 q.0, omega (arith, q.1, l.invariant.2))
+    elim c.if-broken_at.branch [
+      then-broken_at w ↦
+        let q = found_turn _ _ (sym e ∙ w.if-broken_at.true) (w.places-is ∙ w.note.ensures) w.m-is in
+        (search rules, next l.i _ l.invariant.1 q.0, omega (arith, q.1, l.invariant.2))
+      | else-broken_at w ↦
+        let q = missed_turn _ _ (sym e ∙ w.if-broken_at.false) w.places-is w.m-is in
+        (search rules, next l.i _ l.invariant.1 q.0, omega (arith, q.1, l.invariant.2))
+    ]
 
 pub shape_of-places : goal.shape_of-places
 shape_of-places c = length_listed c.loop-i.invariant.1

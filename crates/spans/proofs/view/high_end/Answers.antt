@@ -8,13 +8,10 @@ use Rattle.spans.specs.Views.{high_end}
 use Rattle.spans.proofs.AtHand.{along_is}
 use Rattle.spans.proofs.view.high_end.Goals as goal
 
-count : (c : goal.After-along) → c.along.result ≡ bays c.args.f.now c.args.d
-count c = c.along.ensures ∙ along_is c.requires.sized c.args.d
-
 pub returns-then-s-along : goal.returns-then-s-along
 unfolding high_end
-returns-then-s-along c = rw (← count c, eq-eqb _ _ c.if-s-along.true) c.outer_end.ensures
+returns-then-s-along c = rw (← c.along.ensures ∙ along_is c.requires.sized c.args.d, eq-eqb _ _ c.if-s-along.true) c.outer_end.ensures
 
 pub returns-else-s-along : goal.returns-else-s-along
 unfolding high_end
-returns-else-s-along c = rw (← count c, ne_eqb _ _ c.if-s-along.false) c.inner_end.ensures
+returns-else-s-along c = rw (← c.along.ensures ∙ along_is c.requires.sized c.args.d, ne_eqb _ _ c.if-s-along.false) c.inner_end.ensures
