@@ -1,7 +1,6 @@
 -- The loop's invariant: the limits passed are listed, and no other.
 -- Assumes nothing.
 use Prim.Native.Nat.{◌*◌, ◌-◌, ◌≤◌, zero-le}
-use mathlib.Core.Logic.{⊎_elim}
 use native.Mathlib.Omega.{arith}
 use borrow.Author.Rules.{rules}
 use Rattle.limits.specs.Places.{limit_at}
@@ -10,6 +9,7 @@ use Rattle.broken.specs.Laid.{Listed}
 use Rattle.broken.proofs.Laid.{none, next, length_listed}
 use Rattle.broken.proofs.Walk.{limit_turn, skipped_turn, all_done}
 use Rattle.broken.proofs.list_all.Goals as goal
+use Rattle.broken.proofs.list_all.Goals.{then-v-number-eq1, else-v-number-eq1}
 
 pub loop-k-init : goal.loop-k-init
 loop-k-init c = (zero-le, none _ _ _, omega arith)
@@ -18,14 +18,18 @@ pub list_limit-n-requires : goal.list_limit-n-requires
 list_limit-n-requires c = record { ready = c.requires.ready; most = omega (arith, c.loop-k.invariant, c.loop-k-test.true) }
 
 pub loop-k-preserved : goal.loop-k-preserved
-loop-k-preserved c = let l = c.loop-k in
+loop-k-preserved c =
+    let l = c.loop-k in
     let b = c.requires in
     let e = c.limit_at-limit.ensures in
-    let q =
-    ⊎_elim (λ w. limit_turn _ e w.2.ensures w.5 w.6)
-    (λ w. skipped_turn b e c.number.ensures.0 w.0.left w.1 w.2) c.if-v-number-eq1.branch
-    in
-    (search rules, next l.k _ l.invariant.1 q.0, omega (arith, q.1, l.invariant.2))
+    elim c.if-v-number-eq1.branch [
+      then-v-number-eq1 w ↦
+        let q = limit_turn _ e w.list_limit-n.ensures w.places-is w.n-is in
+        (search rules, next l.k _ l.invariant.1 q.0, omega (arith, q.1, l.invariant.2))
+      | else-v-number-eq1 w ↦
+        let q = skipped_turn b e c.number.ensures.0 w.if-v-number-eq1.false w.places-is w.n-is in
+        (search rules, next l.k _ l.invariant.1 q.0, omega (arith, q.1, l.invariant.2))
+    ]
 
 pub shape_of-places : goal.shape_of-places
 shape_of-places c = length_listed c.loop-k.invariant.1
