@@ -1,0 +1,9 @@
+-- Each callee's equation in turn.
+-- Assumes nothing.
+use borrow.Author.Rules.{rules}
+use Rattle.steel.specs.Query.{in_range}
+use Rattle.steel.proofs.query.in_range.Goals as goal
+
+pub returns : goal.returns
+unfolding in_range
+returns c = cc

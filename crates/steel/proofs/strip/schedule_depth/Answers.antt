@@ -1,0 +1,14 @@
+-- By cases of the direction; what is left of t is the same where t is below 26.
+-- Assumes nothing.
+use native.Mathlib.Omega.{arith}
+use borrow.Author.Rules.{rules}
+use Rattle.steel.specs.Strips.{schedule_depth}
+use Rattle.steel.proofs.strip.schedule_depth.Goals as goal
+
+pub returns-in-X : goal.returns-in-X
+unfolding schedule_depth
+returns-in-X c = rw c.in-X.is (omega arith)
+
+pub returns-in-Y : goal.returns-in-Y
+unfolding schedule_depth
+returns-in-Y c = rw c.in-Y.is
