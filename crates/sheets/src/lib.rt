@@ -27,7 +27,7 @@ fn number(out: &mut [u8], at: usize, n: u32) -> usize
 {
     let mut text = [0u8; 20];
     let k = io::decimal(n as u64, &mut text);
-    bytes::copy(&text[..k], &mut out[at..]);
+    out[at..at + k].copy_from_slice(&text[..k]);
     at + k
 }
 
