@@ -28,10 +28,12 @@ use gandhrumil::{
     gandhrumil_change, gandhrumil_clear, gandhrumil_open, gandhrumil_panel, gandhrumil_places,
     gandhrumil_schedule, gandhrumil_steel,
 };
-use libc::{STDIN_FILENO, STDOUT_FILENO};
 use plan::fields::u32_at;
 use sheets::pair;
-use sheets::pieces::write_rows;
+use sheets::pieces::{Sent, write_rows};
+use sheets::read::read_full;
+use std::io;
+use std::io::{ErrorKind, Read, Write};
 use supports::SUPPORT;
 use tables::write::WIDTH;
 
@@ -52,178 +54,247 @@ const LONGEST_PLACES: usize = 803 * 4;
 const LONGEST_SCHEDULE: usize = 1875 * 32;
 
 // The next word of the input, 0 past its end.
-fn word() -> u32 {
+fn word<R: Read>(input: &mut R) -> io::Result<u32> {
     let mut bytes = [0u8; 4];
-    io::read_full(STDIN_FILENO, &mut bytes);
-    u32_at(&bytes, 0)
+    read_full(input, &mut bytes)?;
+    Ok(u32_at(&bytes, 0))
 }
 
-fn long() -> u64 {
-    let low = word() as u64;
-    let high = word() as u64;
-    high * 4294967296 + low
+fn long<R: Read>(input: &mut R) -> io::Result<u64> {
+    let low = word(input)? as u64;
+    let high = word(input)? as u64;
+    Ok(high * 4294967296 + low)
 }
 
-fn read_numbers(slice: &mut [u32]) {
+fn read_numbers<R: Read>(input: &mut R, slice: &mut [u32]) -> io::Result<()> {
     let mut i: usize = 0;
     while i < slice.len() {
-        slice[i] = word();
+        slice[i] = word(input)?;
         i += 1;
     }
+    Ok(())
 }
 
-fn show_answer(answer: Answer) {
+fn show_answer<W: Write>(out: &mut W, answer: Answer) -> io::Result<()> {
     let mut text = [0u8; 22];
     let n = pair(answer.refusal, answer.value, &mut text);
-    io::write_all(STDOUT_FILENO, &text[..n]);
+    out.write_all(&text[..n])
 }
 
-fn show_byte(byte: u8) {
-    io::print_decimal(STDOUT_FILENO, byte as u64);
-    io::write_all(STDOUT_FILENO, b"\n");
+fn show_byte<W: Write>(out: &mut W, byte: u8) -> io::Result<()> {
+    writeln!(out, "{byte}")
 }
 
-fn show_bytes(bytes: &[u8]) {
+fn show_bytes<W: Write>(out: &mut W, bytes: &[u8]) -> io::Result<()> {
     let mut i: usize = 0;
     while i < bytes.len() {
-        show_byte(bytes[i]);
+        show_byte(out, bytes[i])?;
         i += 1;
     }
+    Ok(())
 }
 
-fn show(floor: &[u8], table: &[u32], governing: &[u32])
+// Numbers that were not taken whole end the program, as any other write that fails.
+fn taken(sent: Sent) -> io::Result<()> {
+    if sent.whole {
+        Ok(())
+    } else {
+        Err(io::Error::from(ErrorKind::WriteZero))
+    }
+}
+
+fn show<W: Write>(out: &mut W, floor: &[u8], table: &[u32], governing: &[u32]) -> io::Result<()>
     requires { Shown table.now governing.now }
 {
-    show_bytes(floor);
-    write_rows(table, 1, table.len());
-    write_rows(governing, 1, governing.len());
+    show_bytes(out, floor)?;
+    taken(write_rows(out, table, 1, table.len()))?;
+    taken(write_rows(out, governing, 1, governing.len()))
 }
 
-fn read_and_change(floor: &mut [u8], table: &mut [u32], governing: &mut [u32], change: &mut [u8]) {
-    io::read_full(STDIN_FILENO, change);
-    show_answer(gandhrumil_change(floor, table, governing, change));
+fn read_and_change<R: Read, W: Write>(
+    input: &mut R,
+    out: &mut W,
+    floor: &mut [u8],
+    table: &mut [u32],
+    governing: &mut [u32],
+    change: &mut [u8],
+) -> io::Result<()> {
+    read_full(input, change)?;
+    show_answer(out, gandhrumil_change(floor, table, governing, change))
 }
 
-fn change(floor: &mut [u8], table: &mut [u32], governing: &mut [u32]) -> bool {
+fn change<R: Read, W: Write>(
+    input: &mut R,
+    out: &mut W,
+    floor: &mut [u8],
+    table: &mut [u32],
+    governing: &mut [u32],
+) -> io::Result<bool> {
     let mut bytes = [0u8; LONGEST_CHANGE];
-    let n = word() as usize;
+    let n = word(input)? as usize;
     if n > LONGEST_CHANGE {
-        return false;
+        return Ok(false);
     }
-    read_and_change(floor, table, governing, &mut bytes[..n]);
-    true
+    read_and_change(input, out, floor, table, governing, &mut bytes[..n])?;
+    Ok(true)
 }
 
-fn read_and_list(floor: &[u8], places: &mut [u32])
+fn read_and_list<R: Read, W: Write>(
+    input: &mut R,
+    out: &mut W,
+    floor: &[u8],
+    places: &mut [u32],
+) -> io::Result<()>
     requires { Listable places.old }
 {
-    read_numbers(places);
-    show_answer(gandhrumil_places(floor, places));
-    write_rows(places, 1, places.len());
+    read_numbers(input, places)?;
+    show_answer(out, gandhrumil_places(floor, places))?;
+    taken(write_rows(out, places, 1, places.len()))
 }
 
-fn places(floor: &[u8]) -> bool {
+fn places<R: Read, W: Write>(input: &mut R, out: &mut W, floor: &[u8]) -> io::Result<bool> {
     let mut numbers = [0u32; LONGEST_PLACES];
-    let n = word() as usize;
+    let n = word(input)? as usize;
     if n > LONGEST_PLACES {
-        return false;
+        return Ok(false);
     }
-    read_and_list(floor, &mut numbers[..n]);
-    true
+    read_and_list(input, out, floor, &mut numbers[..n])?;
+    Ok(true)
 }
 
-fn read_and_schedule(floor: &[u8], bytes: &mut [u8]) {
-    io::read_full(STDIN_FILENO, bytes);
-    show_answer(gandhrumil_schedule(floor, bytes));
-    show_bytes(bytes);
+fn read_and_schedule<R: Read, W: Write>(
+    input: &mut R,
+    out: &mut W,
+    floor: &[u8],
+    bytes: &mut [u8],
+) -> io::Result<()> {
+    read_full(input, bytes)?;
+    show_answer(out, gandhrumil_schedule(floor, bytes))?;
+    show_bytes(out, bytes)
 }
 
-fn schedule(floor: &[u8]) -> bool {
+fn schedule<R: Read, W: Write>(input: &mut R, out: &mut W, floor: &[u8]) -> io::Result<bool> {
     let mut bytes = [0u8; LONGEST_SCHEDULE];
-    let n = word() as usize;
+    let n = word(input)? as usize;
     if n > LONGEST_SCHEDULE {
-        return false;
+        return Ok(false);
     }
-    read_and_schedule(floor, &mut bytes[..n]);
-    true
+    read_and_schedule(input, out, floor, &mut bytes[..n])?;
+    Ok(true)
 }
 
 // Makes the next call, and answers whether there was one.
-fn call(floor: &mut [u8], table: &mut [u32], governing: &mut [u32]) -> bool
+fn call<R: Read, W: Write>(
+    input: &mut R,
+    out: &mut W,
+    floor: &mut [u8],
+    table: &mut [u32],
+    governing: &mut [u32],
+) -> io::Result<bool>
     requires { Shown table.old governing.old }
 {
-    match word() {
-        1 => show_answer(gandhrumil_open(floor, table, governing)),
-        2 => return change(floor, table, governing),
-        3 => show_answer(gandhrumil_panel(floor, long(), long())),
-        4 => show_answer(gandhrumil_steel(long(), long(), long(), long(), long(), long())),
-        5 => show(floor, table, governing),
-        6 => show_answer(gandhrumil_clear(floor)),
-        7 => return places(floor),
-        8 => return schedule(floor),
-        _ => return false,
+    match word(input)? {
+        1 => show_answer(out, gandhrumil_open(floor, table, governing))?,
+        2 => return change(input, out, floor, table, governing),
+        3 => show_answer(out, gandhrumil_panel(floor, long(input)?, long(input)?))?,
+        4 => show_answer(
+            out,
+            gandhrumil_steel(
+                long(input)?,
+                long(input)?,
+                long(input)?,
+                long(input)?,
+                long(input)?,
+                long(input)?,
+            ),
+        )?,
+        5 => show(out, floor, table, governing)?,
+        6 => show_answer(out, gandhrumil_clear(floor))?,
+        7 => return places(input, out, floor),
+        8 => return schedule(input, out, floor),
+        _ => return Ok(false),
     }
-    true
+    Ok(true)
 }
 
-fn calls(floor: &mut [u8], table: &mut [u32], governing: &mut [u32]) -> bool
+fn calls<R: Read, W: Write>(
+    input: &mut R,
+    out: &mut W,
+    floor: &mut [u8],
+    table: &mut [u32],
+    governing: &mut [u32],
+) -> io::Result<bool>
     requires { Shown table.old governing.old }
 {
-    let mut left = word();
+    let mut left = word(input)?;
     if left == 0 {
-        return false;
+        return Ok(false);
     }
     while left > 0 {
-        if !call(floor, table, governing) {
-            return false;
+        if !call(input, out, floor, table, governing)? {
+            return Ok(false);
         }
         left -= 1;
     }
-    true
+    Ok(true)
 }
 
-fn with_governing(floor: &mut [u8], table: &mut [u32], governing: &mut [u32]) -> bool
+fn with_governing<R: Read, W: Write>(
+    input: &mut R,
+    out: &mut W,
+    floor: &mut [u8],
+    table: &mut [u32],
+    governing: &mut [u32],
+) -> io::Result<bool>
     requires { Shown table.old governing.old }
 {
-    read_numbers(governing);
-    calls(floor, table, governing)
+    read_numbers(input, governing)?;
+    calls(input, out, floor, table, governing)
 }
 
-fn with_table(floor: &mut [u8], table: &mut [u32]) -> bool
+fn with_table<R: Read, W: Write>(
+    input: &mut R,
+    out: &mut W,
+    floor: &mut [u8],
+    table: &mut [u32],
+) -> io::Result<bool>
     requires { length table.old ≤ 320 * record_width }
 {
     let mut governing = [0u32; LONGEST_GOVERNING];
-    read_numbers(table);
-    let n = word() as usize;
+    read_numbers(input, table)?;
+    let n = word(input)? as usize;
     if n > LONGEST_GOVERNING {
-        return false;
+        return Ok(false);
     }
-    with_governing(floor, table, &mut governing[..n])
+    with_governing(input, out, floor, table, &mut governing[..n])
 }
 
-fn with_floor(floor: &mut [u8]) -> bool {
+fn with_floor<R: Read, W: Write>(input: &mut R, out: &mut W, floor: &mut [u8]) -> io::Result<bool> {
     let mut table = [0u32; LONGEST_TABLE];
-    io::read_full(STDIN_FILENO, floor);
-    let n = word() as usize;
+    read_full(input, floor)?;
+    let n = word(input)? as usize;
     if n > LONGEST_TABLE {
-        return false;
+        return Ok(false);
     }
-    with_table(floor, &mut table[..n])
+    with_table(input, out, floor, &mut table[..n])
 }
 
 // Makes the calls of one batch, and answers whether another may follow.
-fn batch() -> bool {
+fn batch<R: Read, W: Write>(input: &mut R, out: &mut W) -> io::Result<bool> {
     let mut floor = [0u8; LONGEST_FLOOR];
-    let n = word() as usize;
+    let n = word(input)? as usize;
     if n > LONGEST_FLOOR {
-        return false;
+        return Ok(false);
     }
-    with_floor(&mut floor[..n])
+    with_floor(input, out, &mut floor[..n])
 }
 
-fn main() {
+fn main(rt: HostRuntime) -> io::Result<()> {
+    let mut input = rt.stdin();
+    let mut out = rt.stdout();
     let mut turns = u64::MAX;
-    while turns > 0 && batch() {
+    while turns > 0 && batch(&mut input, &mut out)? {
         turns -= 1;
     }
+    Ok(())
 }

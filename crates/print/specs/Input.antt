@@ -1,8 +1,7 @@
 -- What is kept of the input. Input longer than any floor, of 3,584 bytes or more, is refused 1, 2 or 3 by its length modulo 16 and its first
 -- record alone, so that 3,584 bytes and as many more as its length modulo 16 stand for it.
 -- Assumes nothing.
-use Rattle.std.specs.Prelude.{ℕ, ◌+◌, ◌%◌, ◌≤◌, ◌<◌, Bool, true, false, cond, List, ◌≡◌, ltb, eqb, ℤ, pos, negsuc, length, take, get_or}
-use Rattle.io.specs.Counts.{clamp_len}
+use Rattle.std.specs.Prelude.{ℕ, ◌+◌, ◌%◌, ◌≤◌, ◌<◌, min, Bool, true, false, cond, List, ◌≡◌, ltb, eqb, Result, Ok, Err, length, take, get_or}
 use Rattle.print.specs.declared.input.Got.{Got}
 use Rattle.print.specs.declared.input.Input.{Input}
 
@@ -16,14 +15,19 @@ pub record Stands (f b : List ℕ) (n : ℕ) : Type 0 where
   pub there : n ≤ length b
   pub same : (k : ℕ) → k < 3584 → k < length f → get_or b k 0 ≡ get_or f k 0
 
--- a call that answers -1 failed
-abbrev pub is_failed : ℤ → Bool
-is_failed (pos k) = false
-is_failed (negsuc k) = true
+-- a read that answers an error failed
+abbrev pub is_failed : {E : Type 0} → Result ℕ E → Bool
+is_failed (Ok k) = false
+is_failed (Err e) = true
+
+-- how many bytes it gave, handed a buffer of `most` bytes
+abbrev pub given : {E : Type 0} → Result ℕ E → ℕ → ℕ
+given (Ok k) most = min k most
+given (Err e) most = 0
 
 -- what a read answered, handed a buffer of `most` bytes
-abbrev pub got_of : ℤ → ℕ → Got
-got_of answer most = record { bytes = clamp_len answer most; failed = is_failed answer }
+abbrev pub got_of : {E : Type 0} → Result ℕ E → ℕ → Got
+got_of answer most = record { bytes = given answer most; failed = is_failed answer }
 
 -- what is known of the input after n bytes that stand for what was read before, and one more read: one that gives nothing is the last
 abbrev pub after_read : ℕ → Got → Input

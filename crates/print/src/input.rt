@@ -4,7 +4,8 @@ ghost use Rattle.std.specs.Prelude.{◌≡◌, ◌+◌, ◌≤◌, length};
 ghost use Rattle.io.specs.Counts.{IsPrefixLen};
 ghost use Rattle.print.specs.Input.{stand_in, got_of, after_read, ReadOn, Room};
 
-use libc::STDIN_FILENO;
+use std::io;
+use std::io::Read;
 
 // The largest floor has 3,568 bytes. Of an input of 3,584 bytes or more the refusal is 1, 2 or 3, and depends on its first record and on
 // its length modulo 16 alone (`stand_in_lem`).
@@ -24,22 +25,27 @@ struct Got {
     failed: bool,
 }
 
-fn counted(answer: isize, bytes: &[u8]) -> Got
+fn counted(answer: io::Result<usize>, bytes: &[u8]) -> Got
     ensures { result ≡ got_of answer (length bytes.now) }
 {
-    let n = io::count(answer, bytes);
-    Got {
-        bytes: n,
-        failed: answer < 0,
+    match answer {
+        Ok(n) => Got {
+            bytes: n.min(bytes.len()),
+            failed: false,
+        },
+        Err(_) => Got {
+            bytes: 0,
+            failed: true,
+        },
     }
 }
 
 // Reads once, to the bytes from `at` on.
-fn read_on(bytes: &mut [u8], at: usize) -> Got
+fn read_on<R: Read>(input: &mut R, bytes: &mut [u8], at: usize) -> Got
     requires { at ≤ length bytes.old }
     ensures { ReadOn bytes.old at bytes.new result.bytes }
 {
-    let answer = libc::read(STDIN_FILENO, &mut bytes[at..]);
+    let answer = input.read(&mut bytes[at..]);
     counted(answer, &bytes[at..])
 }
 
@@ -66,18 +72,18 @@ fn after(n: usize, got: Got) -> Input
 }
 
 // Reads standard input to its end, each time behind the bytes that stand for what came before.
-pub fn read_floor(bytes: &mut [u8]) -> Input
+pub fn read_floor<R: Read>(input: &mut R, bytes: &mut [u8]) -> Input
     requires { Room bytes.old }
     ensures { IsPrefixLen result.bytes bytes.new }
 {
     let mut n: usize = 0;
     let mut turns = u64::MAX;
     while turns > 0 {
-        let input = after(n, read_on(bytes, n));
-        if input.ended {
-            return input;
+        let read = after(n, read_on(input, bytes, n));
+        if read.ended {
+            return read;
         }
-        n = input.bytes;
+        n = read.bytes;
         turns -= 1;
     }
     Input {

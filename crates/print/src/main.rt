@@ -9,10 +9,11 @@ ghost use Rattle.moments.specs.Lent.{lent};
 ghost use Rattle.print.specs.Sheet.{sheet_text, Began, Space};
 
 use input::read_floor;
-use libc::STDERR_FILENO;
 use plan::read::bays_of;
 use sheets::pair;
 use sheets::pieces::{Sent, send, write_rows};
+use std::io::Write;
+use std::process::ExitCode;
 use supports::SUPPORT;
 use tables::places::record_count;
 use tables::write::WIDTH;
@@ -50,7 +51,7 @@ fn begin(floor: &[u8], table: &mut [u32], governing: &mut [u32], out: &mut [u8])
 }
 
 // Prints a floor. Where a write fails, nothing is written after it.
-fn sheet(floor: &[u8], table: &mut [u32], governing: &mut [u32]) -> Sent
+fn sheet<W: Write>(to: &mut W, floor: &[u8], table: &mut [u32], governing: &mut [u32]) -> Sent
     requires { Space table.old governing.old }
     ensures { Printed (sheet_text floor.now (lent table.old governing.old)) result }
 {
@@ -58,11 +59,11 @@ fn sheet(floor: &[u8], table: &mut [u32], governing: &mut [u32]) -> Sent
     let start = begin(floor, table, governing, &mut out);
     let end = start.end;
     let records = start.records as usize;
-    let first = send(&out[..end]);
+    let first = send(to, &out[..end]);
     if !first.whole {
         return first;
     }
-    let rest = write_rows(table, WIDTH, records);
+    let rest = write_rows(to, table, WIDTH, records);
     Sent {
         whole: rest.whole,
         bytes: first.bytes + rest.bytes,
@@ -70,27 +71,27 @@ fn sheet(floor: &[u8], table: &mut [u32], governing: &mut [u32]) -> Sent
 }
 
 // Prints a floor, and answers whether all of its sheet was taken.
-fn show(floor: &[u8]) -> bool {
+fn show<W: Write>(to: &mut W, floor: &[u8]) -> bool {
     let mut table = [0u32; LARGEST];
     let mut governing = [0u32; SUPPORTS];
-    let sent = sheet(floor, &mut table, &mut governing);
+    let sent = sheet(to, floor, &mut table, &mut governing);
     sent.whole
 }
 
-// The language has no exit status: where one of these lines is said, `./run` ends with 1.
-fn main() {
-    let mut bytes = io::large_buffer();
-    let input = read_floor(&mut bytes);
+// Where one of these lines is said, the status is 1. Of a line that cannot be said there is no one to tell.
+fn main(rt: HostRuntime) -> ExitCode {
+    let mut bytes = [0u8; 65536];
+    let input = read_floor(&mut rt.stdin(), &mut bytes);
     let n = input.bytes;
     if input.failed {
-        io::write_all(
-            STDERR_FILENO,
-            b"print: standard input cannot be read, and no sheet is printed\n",
-        );
-    } else if !show(&bytes[..n]) {
-        io::write_all(
-            STDERR_FILENO,
-            b"print: standard output cannot be written, and the sheet is not whole\n",
-        );
+        let _ = eprintln!(rt; "print: standard input cannot be read, and no sheet is printed");
+        return ExitCode::FAILURE;
     }
+    if !show(&mut rt.stdout(), &bytes[..n]) {
+        let _ = eprintln!(rt;
+            "print: standard output cannot be written, and the sheet is not whole"
+        );
+        return ExitCode::FAILURE;
+    }
+    ExitCode::SUCCESS
 }

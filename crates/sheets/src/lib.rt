@@ -2,6 +2,7 @@
 #![tactic(auto)]
 
 pub mod pieces;
+pub mod read;
 
 ghost use Rattle.std.specs.Prelude.{[], ◌∷◌, ◌+◌, ◌*◌, ◌≤◌, ◌<◌, length, take, drop};
 ghost use Rattle.sheets.specs.Text.{decimal, further, line, lines};

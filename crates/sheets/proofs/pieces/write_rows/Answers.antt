@@ -10,7 +10,8 @@ use borrow.Author.Tests.{not-false}
 use Rattle.sheets.specs.Pieces.{piece}
 use Rattle.sheets.proofs.Texts.{lines_add}
 use Rattle.sheets.proofs.Cuts.{piece_some, piece_within, piece_fits, cut_off}
-use Rattle.sheets.proofs.Growing.{grew_none, grew_lines}
+use Rattle.std.proofs.KnownBytes.{Appends-nil}
+use Rattle.sheets.proofs.Growing.{grew_lines}
 use Rattle.sheets.proofs.pieces.write_rows.Goals as goal
 
 -- n records after `done`, as a piece has them
@@ -22,7 +23,7 @@ module _ {width count done n : ℕ} (some : 1 ≤ width) (more : done < count) (
   held = mul-le-mul_right width few
 
 pub loop-done-init : goal.loop-done-init
-loop-done-init g c = (refl, omega arith, omega arith, grew_none _)
+loop-done-init g c = (refl, omega arith, omega arith, Appends-nil _)
 
 pub write_piece-piece-requires : goal.write_piece-piece-requires
 write_piece-piece-requires g c = record {
