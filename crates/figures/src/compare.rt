@@ -2,8 +2,9 @@
 ghost use Rattle.std.specs.Prelude.{◌≡◌};
 ghost use Rattle.figures.specs.Comparison.{off_by, within};
 
-use libc::STDOUT_FILENO;
 use numbers::{larger, smaller};
+use std::io;
+use std::io::Write;
 
 // The difference in hundredths of a percent of their figure, rounded up; where theirs is 0, of 1.
 fn compare(theirs: u32, ours: u32) -> u64
@@ -22,30 +23,29 @@ fn is_within(off: u64) -> bool
     off <= 100
 }
 
-fn show_number(n: u64) {
-    io::print_decimal(STDOUT_FILENO, n);
-    io::write_all(STDOUT_FILENO, b" ");
+fn show_number<W: Write>(out: &mut W, n: u64) -> io::Result<()> {
+    write!(out, "{n} ")
 }
 
-fn show_word(within: bool) {
+fn show_word<W: Write>(out: &mut W, within: bool) -> io::Result<()> {
     if within {
-        io::write_all(STDOUT_FILENO, b"within\n");
+        out.write_all(b"within\n")
     } else {
-        io::write_all(STDOUT_FILENO, b"beyond\n");
+        out.write_all(b"beyond\n")
     }
 }
 
 // A line: the figure's number in docs/FIGURES.md, theirs, ours, the difference, and whether it is within one percent.
-pub fn figure(number: u32, theirs: u32, ours: u32) {
+pub fn figure<W: Write>(out: &mut W, number: u32, theirs: u32, ours: u32) -> io::Result<()> {
     let off = compare(theirs, ours);
-    show_number(number as u64);
-    show_number(theirs as u64);
-    show_number(ours as u64);
-    show_number(off);
-    show_word(is_within(off));
+    show_number(out, number as u64)?;
+    show_number(out, theirs as u64)?;
+    show_number(out, ours as u64)?;
+    show_number(out, off)?;
+    show_word(out, is_within(off))
 }
 
 // The same of a formula, whose numbers are wider. None of them reaches 32 bits here.
-pub fn formula(number: u32, theirs: u32, ours: u64) {
-    figure(number, theirs, smaller(ours, 4294967295) as u32);
+pub fn formula<W: Write>(out: &mut W, number: u32, theirs: u32, ours: u64) -> io::Result<()> {
+    figure(out, number, theirs, smaller(ours, 4294967295) as u32)
 }

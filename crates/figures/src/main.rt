@@ -18,8 +18,10 @@ mod plates;
 use answers::Answer;
 use areas::grade_420;
 use compare::figure;
-use libc::STDIN_FILENO;
 use plan::fields::u32_at;
+use sheets::read::read_full;
+use std::io;
+use std::io::{Read, Write};
 
 // The largest floor, 12 by 12 bays.
 const LONGEST_FLOOR: usize = 3568;
@@ -40,60 +42,80 @@ fn told(answer: Answer, table: &[u32], asked: usize) -> u32 {
     if place < table.len() { table[place] } else { 0 }
 }
 
-fn ask(answer: Answer, table: &[u32]) {
+fn ask<R: Read, W: Write>(
+    input: &mut R,
+    out: &mut W,
+    answer: Answer,
+    table: &[u32],
+) -> io::Result<()> {
     let mut question = [0u8; 12];
-    io::read_full(STDIN_FILENO, &mut question);
+    read_full(input, &mut question)?;
     let number = u32_at(&question, 0);
     let asked = u32_at(&question, 4) as usize;
     let theirs = u32_at(&question, 8);
-    figure(number, theirs, told(answer, table, asked));
+    figure(out, number, theirs, told(answer, table, asked))
 }
 
-fn ask_all(answer: Answer, table: &[u32], questions: u32) {
+fn ask_all<R: Read, W: Write>(
+    input: &mut R,
+    out: &mut W,
+    answer: Answer,
+    table: &[u32],
+    questions: u32,
+) -> io::Result<()> {
     let mut i: u32 = 0;
     while i < questions {
-        ask(answer, table);
+        ask(input, out, answer, table)?;
         i += 1;
     }
+    Ok(())
 }
 
-fn with_floor(floor: &mut [u8], questions: u32) {
+fn with_floor<R: Read, W: Write>(
+    input: &mut R,
+    out: &mut W,
+    floor: &mut [u8],
+    questions: u32,
+) -> io::Result<()> {
     let mut table = [0u32; LARGEST_TABLE];
     let mut governing = [0u32; LARGEST_GOVERNING];
-    io::read_full(STDIN_FILENO, floor);
+    read_full(input, floor)?;
     let answer = moments::open(floor, &mut table, &mut governing);
-    ask_all(answer, &table, questions);
+    ask_all(input, out, answer, &table, questions)
 }
 
 // Runs the figures of one floor, and answers whether there was one.
-fn one() -> bool {
+fn one<R: Read, W: Write>(input: &mut R, out: &mut W) -> io::Result<bool> {
     let mut floor = [0u8; LONGEST_FLOOR];
     let mut head = [0u8; 8];
-    if io::read_full(STDIN_FILENO, &mut head) < 8 {
-        return false;
+    if read_full(input, &mut head)? < 8 {
+        return Ok(false);
     }
     let length = u32_at(&head, 0) as usize;
     let questions = u32_at(&head, 4);
     if length <= LONGEST_FLOOR {
-        with_floor(&mut floor[..length], questions);
+        with_floor(input, out, &mut floor[..length], questions)?;
     }
-    true
+    Ok(true)
 }
 
-fn formulas() {
+fn formulas<W: Write>(out: &mut W) -> io::Result<()> {
     let refused = grade_420(20000000, 1000, 150, 124, 30).refusal;
-    figure(1, 12, refused);
-    limits::all();
-    beams::all();
-    plates::all();
-    panels::all();
-    general::all();
+    figure(out, 1, 12, refused)?;
+    limits::all(out)?;
+    beams::all(out)?;
+    plates::all(out)?;
+    panels::all(out)?;
+    general::all(out)
 }
 
-fn main() {
-    formulas();
+fn main(rt: HostRuntime) -> io::Result<()> {
+    let mut input = rt.stdin();
+    let mut out = rt.stdout();
+    formulas(&mut out)?;
     let mut turns = u64::MAX;
-    while turns > 0 && one() {
+    while turns > 0 && one(&mut input, &mut out)? {
         turns -= 1;
     }
+    Ok(())
 }

@@ -2,10 +2,20 @@
 ghost use Rattle.thickness.specs.Asked.{PanelSizes};
 
 use crate::compare::formula;
+use std::io;
+use std::io::Write;
 use thickness::{Panel, PanelPlace, least_thickness};
 
 // Of an inner panel, fy 420.
-fn inner(number: u32, theirs: u32, everywhere: bool, sn: u64, ln: u64, s: u64)
+fn inner<W: Write>(
+    out: &mut W,
+    number: u32,
+    theirs: u32,
+    everywhere: bool,
+    sn: u64,
+    ln: u64,
+    s: u64,
+) -> io::Result<()>
     requires { PanelSizes 420 sn ln }
 {
     let panel = Panel {
@@ -17,13 +27,13 @@ fn inner(number: u32, theirs: u32, everywhere: bool, sn: u64, ln: u64, s: u64)
         s: s,
         weak: false,
     };
-    formula(number, theirs, 1000 * least_thickness(panel));
+    formula(out, number, theirs, 1000 * least_thickness(panel))
 }
 
-pub fn all() {
-    inner(401, 150118, true, 5800, 5800, 60000);
-    inner(402, 146388, true, 5000, 6300, 92000);
-    inner(403, 136723, true, 5000, 5500, 68000);
-    inner(404, 136364, false, 4200, 4500, 0);
-    inner(405, 178788, false, 4200, 5900, 0);
+pub fn all<W: Write>(out: &mut W) -> io::Result<()> {
+    inner(out, 401, 150118, true, 5800, 5800, 60000)?;
+    inner(out, 402, 146388, true, 5000, 6300, 92000)?;
+    inner(out, 403, 136723, true, 5000, 5500, 68000)?;
+    inner(out, 404, 136364, false, 4200, 4500, 0)?;
+    inner(out, 405, 178788, false, 4200, 5900, 0)
 }
