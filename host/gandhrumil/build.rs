@@ -1,4 +1,4 @@
-//! Links the static library that `./library` proves and compiles for this machine.
+//! Links the static library that `./library` proves and writes.
 
 use std::path::Path;
 

@@ -8,10 +8,10 @@ use std::thread;
 /// The script beside host that runs a program which is built there. The program must be built.
 pub fn run_script(name: &str) -> PathBuf {
     let root = Path::new(env!("CARGO_MANIFEST_DIR")).join("../..");
-    let program = root.join("target/bin").join(name);
+    let program = root.join("crates").join(name).join("out").join(name);
     assert!(
         program.is_file(),
-        "no program at {}: `rt check {name}` builds it",
+        "no program at {}: `rt run` in crates/{name} builds it",
         program.display()
     );
     root.join("run")

@@ -137,9 +137,9 @@ impl<'a> Reader<'a> {
         let mut next = at + 2;
         while next < self.tokens.len() {
             match self.text(next) {
-                "requires" | "ensures" | "ghost" if self.text(next + 1) == "{" => {
-                    next = self.close(next + 1) + 1
-                }
+                // A clause may have a name of its own.
+                "requires" | "ensures" => next = self.close(self.find(next, "{")) + 1,
+                "ghost" if self.text(next + 1) == "{" => next = self.close(next + 1) + 1,
                 "(" | "[" => next = self.close(next) + 1,
                 ";" => return next + 1,
                 "{" => break,
@@ -226,8 +226,8 @@ use c::d;
 pub const WIDTHS: [u64; 2] = [16, 17];
 pub enum Rule { Columns, Beams(Layout), Depth }
 pub fn half(n: u64) -> [u64; 2]
-    requires { ⌜ n ≡ 2 ⌝ }
-    ensures { λ r. ⌜ r ≡ record { a = 1 } ⌝ }
+    requires { n ≡ 2 }
+    ensures lower { result ≡ record { a = 1 } }
 {
     n / 2
 }

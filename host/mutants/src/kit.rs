@@ -8,63 +8,59 @@ use std::path::{Path, PathBuf};
 
 pub struct Kit {
     home: PathBuf,
-    own: PathBuf,
 }
 
 impl Kit {
-    /// As `rt` finds it: by RATTLE_HOME, or beside `rt` itself.
+    /// As `rt` finds it: beside `rt` itself.
     pub fn find() -> Result<Self, String> {
-        let home = match env::var_os("RATTLE_HOME") {
-            Some(home) => PathBuf::from(home),
-            None => beside_rt().ok_or("rt is not on the path")?,
-        };
-        let own = home.join("on").join(env::consts::ARCH);
-        if own.join("bin/rattle").is_file() {
-            Ok(Self { home, own })
+        let home = beside_rt().ok_or("rt is not on the path")?;
+        if home.join("bin/rattle").is_file() {
+            Ok(Self { home })
         } else {
-            Err(format!(
-                "the kit at {} has nothing for this machine",
-                home.display()
-            ))
+            Err(format!("there is no kit at {}", home.display()))
         }
     }
 
     pub fn rattle(&self) -> PathBuf {
-        self.own.join("bin/rattle")
+        self.home.join("bin/rattle")
     }
 
-    /// For crate `name`, whose files stand in `folder`, over the proved libraries in `rlibs`.
-    pub fn words(&self, name: &str, uses: &[String], folder: &Path, rlibs: &Path) -> Vec<OsString> {
+    /// For a crate whose files stand in `folder`, over the proved libraries below `crates`.
+    pub fn words(
+        &self,
+        list: &[Listed],
+        own: &Listed,
+        folder: &Path,
+        crates: &Path,
+    ) -> Vec<OsString> {
         let root = ["main.rt", "lib.rt"]
             .iter()
             .map(|file| folder.join("src").join(file))
             .find(|file| file.is_file());
-        let mut words: Vec<OsString> = vec!["--crate-name".into(), name.into()];
+        let mut words: Vec<OsString> = vec!["--crate-name".into(), own.name.clone().into()];
         words.push(root.unwrap_or_default().into());
-        let kit = self.own.join("rlib");
+        if own.is_static {
+            words.extend(["--crate-type".into(), "staticlib".into()]);
+        }
+        let kit = self.home.join("rlibs");
+        let built = |name: &str| crates.join(name).join("out/rlib");
         words.extend(["--extern".into(), joined("std=", &kit.join("std.rlib"))]);
-        for library in uses {
-            let file = format!("{library}.rlib");
-            let built = [rlibs, kit.as_path()]
-                .map(|at| at.join(&file))
-                .into_iter()
-                .find(|at| at.is_dir());
+        for library in &own.uses {
+            let ours = list.iter().any(|listed| listed.name == *library);
+            let at = if ours { built(library) } else { kit.clone() };
             words.extend([
                 "--extern".into(),
-                joined(&format!("{library}="), &built.unwrap_or_default()),
+                joined(&format!("{library}="), &at.join(format!("{library}.rlib"))),
             ]);
         }
-        words.extend([
-            "-L".into(),
-            joined("dependency=", rlibs),
-            "-L".into(),
-            joined("dependency=", &kit),
-        ]);
+        for at in list.iter().map(|listed| built(&listed.name)).chain([kit]) {
+            words.extend(["-L".into(), joined("dependency=", &at)]);
+        }
         words.extend([
             "--antt-project".into(),
-            self.home.join("logic/antt-project.json").into(),
+            self.home.join("rattle/logic/antt-project.json").into(),
         ]);
-        words.extend(["--logic-built".into(), self.own.join("logic-built").into()]);
+        words.extend(["--logic-built".into(), self.home.join("logic_built").into()]);
         words
     }
 }
@@ -83,23 +79,34 @@ fn joined(before: &str, path: &Path) -> OsString {
     word
 }
 
-/// The crates of a repository and what each uses, in the order of crates.txt.
-pub fn listed(repository: &Path) -> io::Result<Vec<(String, Vec<String>)>> {
+/// A line of crates.txt.
+#[derive(Debug, PartialEq, Eq)]
+pub struct Listed {
+    pub name: String,
+    /// A library for C.
+    pub is_static: bool,
+    pub uses: Vec<String>,
+}
+
+/// The crates of a repository, in the order of crates.txt.
+pub fn listed(repository: &Path) -> io::Result<Vec<Listed>> {
     Ok(read_list(&fs::read_to_string(
         repository.join("crates.txt"),
     )?))
 }
 
-fn read_list(text: &str) -> Vec<(String, Vec<String>)> {
+fn read_list(text: &str) -> Vec<Listed> {
     let lines = text
         .lines()
         .map(|line| line.split('#').next().unwrap_or(""));
     let entry = |line: &str| {
-        let (name, uses) = line.split_once(':')?;
-        Some((
-            name.trim().to_string(),
-            uses.split_whitespace().map(str::to_string).collect(),
-        ))
+        let (own, uses) = line.split_once(':')?;
+        let mut own = own.split_whitespace();
+        Some(Listed {
+            name: own.next()?.to_string(),
+            is_static: own.any(|word| word == "staticlib"),
+            uses: uses.split_whitespace().map(str::to_string).collect(),
+        })
     };
     lines.filter_map(entry).collect()
 }
@@ -110,15 +117,34 @@ mod tests {
 
     #[test]
     fn the_list_of_crates() {
-        let list = read_list("# bottom up: all\nnumbers:\nplan: numbers records # by name\n");
-        assert_eq!(list[0], ("numbers".to_string(), vec![]));
+        let text =
+            "# bottom up: all\nnumbers:\nplan: numbers records # by name\nplan_c staticlib: plan\n";
+        let line = |name: &str, is_static, uses: &[&str]| Listed {
+            name: name.to_string(),
+            is_static,
+            uses: uses.iter().map(|library| library.to_string()).collect(),
+        };
         assert_eq!(
-            list[1],
-            (
-                "plan".to_string(),
-                vec!["numbers".to_string(), "records".to_string()]
-            )
+            read_list(text),
+            [
+                line("numbers", false, &[]),
+                line("plan", false, &["numbers", "records"]),
+                line("plan_c", true, &["plan"]),
+            ]
         );
-        assert_eq!(list.len(), 2);
+    }
+
+    #[test]
+    fn a_library_of_the_repository_and_one_of_the_kit() {
+        let kit = Kit {
+            home: PathBuf::from("/kit"),
+        };
+        let list = read_list("low:\nhigh: low hex\n");
+        let words = kit.words(&list, &list[1], Path::new("/room"), Path::new("/crates"));
+        let has = |word: &str| words.iter().any(|one| one == word);
+        assert!(has("low=/crates/low/out/rlib/low.rlib"));
+        assert!(has("hex=/kit/rlibs/hex.rlib"));
+        assert!(has("dependency=/crates/low/out/rlib"));
+        assert!(has("dependency=/kit/rlibs"));
     }
 }

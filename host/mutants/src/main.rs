@@ -36,11 +36,11 @@ fn try_crates(repository: &Path, names: &[String]) -> Result<(), String> {
     let list = listed(repository).map_err(|trouble| format!("crates.txt: {trouble}"))?;
     let mut summaries = Vec::new();
     for name in names {
-        let (_, uses) = list
+        let own = list
             .iter()
-            .find(|(listed, _)| listed == name)
+            .find(|listed| listed.name == *name)
             .ok_or(format!("{name} is not in crates.txt"))?;
-        summaries.push(try_all(&kit, repository, name, uses)?);
+        summaries.push(try_all(&kit, repository, &list, own)?);
     }
     println!("{}", summaries.join("\n"));
     Ok(())

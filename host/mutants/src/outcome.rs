@@ -107,14 +107,14 @@ impl Said {
         if state.starts_with("proved") {
             return Some(Outcome::Survived);
         }
-        if state.starts_with("no proof") && state.contains("does not close") {
+        if state.starts_with("no proof") && state.contains("did not prove") {
             return Some(Outcome::Refused);
         }
         let path: Vec<&str> = name.split("::").skip(1).collect();
         let folder = format!("/proofs/{}/", path.join("/"));
         let own = |line: &&String| place(line).is_some_and(|(path, _)| path.contains(&folder));
         let first = first_error(self.lines.iter().filter(own))?;
-        (state.starts_with("not proved") && !state.contains("it calls")).then(|| why(first))
+        state.starts_with("not proved").then(|| why(first))
     }
 }
 
@@ -133,17 +133,15 @@ fn first_error<'a>(mut lines: impl Iterator<Item = &'a String>) -> Option<&'a St
 
 // As the gate judges a must-fail edit.
 fn why(line: &str) -> Outcome {
-    const MISFITS: [&str; 5] = [
+    const MISFITS: [&str; 6] = [
         "that can be named from here",
         "is not in scope",
-        "expected type `tie.Need",
+        "has no field",
+        "expected type `goal.",
         "binders, but its type has room for",
         "the two types are `Prim.Unit",
     ];
-    let record = line
-        .find(": record `")
-        .is_some_and(|at| line[at..].contains(".Lts."));
-    if record || MISFITS.iter().any(|misfit| line.contains(misfit)) {
+    if MISFITS.iter().any(|misfit| line.contains(misfit)) {
         Outcome::Misfit
     } else {
         Outcome::Refused
@@ -154,14 +152,14 @@ fn why(line: &str) -> Outcome {
 mod tests {
     use super::*;
 
-    const RUN: &str = "/w/proofs/strip/split/Proof.antt:22:11: error: `split-spec`: list the missing equation
-/w/proofs/strip/share/Proof.antt:15:11: error: `x` is not in scope
+    const RUN: &str = "/w/proofs/strip/split/Proof.antt:22:11: error: `split_spec`: list the missing equation
+/w/proofs/strip/share/Answers.antt:15:11: error: `x` is not in scope
 note: /w/src/strip.rt:13:6: it is not proved that the subtraction does not go below 0
 fn strips::strip::part: proved
 fn strips::strip::split: not proved
 fn strips::strip::share: not proved
-fn strips::strip::plus_floor: no proof: expected `plus-floor-spec`; `search` does not close `returns`
-fn strips::strip::divided: not proved; it calls `strips::strip::split`, which is not proved
+fn strips::strip::plus_floor: no proof: expected answers in /w/proofs/strip/plus_floor/Answers.antt; `search` did not prove `returns`
+fn strips::strip::divided: no proof: it calls `strips::strip::split`, which is not proved
 logic=not-proved
 ";
 

@@ -1,14 +1,14 @@
 //! A copy of a crate, changed and put to the prover over what it has proved before.
 
 use crate::catalogue::{files_below, Catalogue, Mutant};
-use crate::kit::Kit;
+use crate::kit::{Kit, Listed};
 use crate::outcome::Said;
 use crate::twins::{added, Twin};
 use std::ffi::OsString;
 use std::fs::{self, File};
 use std::io;
 use std::path::{Path, PathBuf};
-use std::process::{Command, Stdio};
+use std::process::{self, Command, Stdio};
 use std::thread::sleep;
 use std::time::{Duration, Instant};
 
@@ -17,49 +17,52 @@ const LONGEST: Duration = Duration::from_secs(600);
 
 pub struct Prover<'a> {
     kit: &'a Kit,
-    name: &'a str,
-    uses: &'a [String],
-    rlibs: PathBuf,
+    list: &'a [Listed],
+    own: &'a Listed,
+    crates: PathBuf,
     room: PathBuf,
 }
 
+impl Drop for Prover<'_> {
+    fn drop(&mut self) {
+        let _ = fs::remove_dir_all(&self.room);
+    }
+}
+
 impl<'a> Prover<'a> {
-    /// With a copy of the crate in a folder of its own, proved there as it stands.
+    /// With a copy of the crate in a folder of its own, proved there as it stands. It stands outside the repository, in which the gate refuses code and
+    /// proofs that no check reads.
     pub fn start(
         kit: &'a Kit,
         repository: &Path,
-        name: &'a str,
-        uses: &'a [String],
+        list: &'a [Listed],
+        own: &'a Listed,
     ) -> Result<Self, String> {
-        let target = repository.join("target");
-        let room = target.join("mutants").join(name);
+        let name = &own.name;
+        let room = std::env::temp_dir().join(format!("mutants-{name}-{}", process::id()));
+        let crates = repository.join("crates");
         let prover = Self {
             kit,
-            name,
-            uses,
-            rlibs: target.join("rlib"),
+            list,
+            own,
+            crates,
             room,
         };
         let io = |trouble: io::Error| format!("{name}: {trouble}");
-        prover
-            .copy_crate(&repository.join("crates").join(name))
-            .map_err(io)?;
+        prover.copy_crate(&prover.crates.join(name)).map_err(io)?;
         let said = prover.run(&prover.words(Some("proved"))).map_err(io)?;
         if said.proved() {
             Ok(prover)
         } else {
             Err(format!(
-                "{name} is not proved as it stands; rt check {name} says why"
+                "{name} is not proved as it stands; rt check in its folder says why"
             ))
         }
     }
 
     fn copy_crate(&self, from: &Path) -> io::Result<()> {
-        for part in ["src", "specs", "proofs", "proved", "tried"] {
-            let old = self.room.join(part);
-            if old.exists() {
-                fs::remove_dir_all(&old)?;
-            }
+        if self.room.exists() {
+            fs::remove_dir_all(&self.room)?;
         }
         for part in ["src", "specs", "proofs"] {
             if from.join(part).is_dir() {
@@ -74,7 +77,7 @@ impl<'a> Prover<'a> {
     fn words(&self, incremental: Option<&str>) -> Vec<OsString> {
         let mut words = self
             .kit
-            .words(self.name, self.uses, &self.room, &self.rlibs);
+            .words(self.list, self.own, &self.room, &self.crates);
         if let Some(folder) = incremental {
             words.extend(["--incremental".into(), self.room.join(folder).into()]);
         }
@@ -88,9 +91,11 @@ impl<'a> Prover<'a> {
         let proofs = self.room.join("proofs");
         for twin in &twins {
             let (own, original) = twin.folders();
-            if let Ok(text) = fs::read_to_string(proofs.join(original).join("Proof.antt")) {
-                fs::create_dir_all(proofs.join(&own))?;
-                fs::write(proofs.join(own).join("Proof.antt"), twin.proof(&text))?;
+            for file in ["Answers.antt", "Invariants.antt", "Proof.antt"] {
+                if let Ok(text) = fs::read_to_string(proofs.join(&original).join(file)) {
+                    fs::create_dir_all(proofs.join(&own))?;
+                    fs::write(proofs.join(&own).join(file), twin.proof(&text))?;
+                }
             }
         }
         let said = self.quickly()?;

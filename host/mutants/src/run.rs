@@ -2,7 +2,7 @@
 
 use crate::catalogue::{files_below, Catalogue, Mutant};
 use crate::kept::{sum, Kept};
-use crate::kit::Kit;
+use crate::kit::{Kit, Listed};
 use crate::outcome::{Outcome, Said, OUTCOMES};
 use crate::prover::Prover;
 use crate::twins::Twin;
@@ -23,9 +23,10 @@ pub fn list(repository: &Path, name: &str) -> io::Result<Vec<String>> {
 pub fn try_all(
     kit: &Kit,
     repository: &Path,
-    name: &str,
-    uses: &[String],
+    list: &[Listed],
+    own: &Listed,
 ) -> Result<String, String> {
+    let name = own.name.as_str();
     let io = |trouble: io::Error| format!("{name}: {trouble}");
     let all = Catalogue::read(&repository.join("crates"), name).map_err(io)?;
     let results = repository.join("target/mutants");
@@ -38,7 +39,7 @@ pub fn try_all(
         lone: vec![false; all.mutants.len()],
     };
     if !run.waiting().is_empty() {
-        let prover = Prover::start(kit, repository, name, uses)?;
+        let prover = Prover::start(kit, repository, list, own)?;
         run.control(&prover).map_err(io)?;
         run.until_done(&prover).map_err(io)?;
     }

@@ -65,12 +65,9 @@ impl Twin {
     pub fn proof(&self, original: &str) -> String {
         let path = |name: &str| {
             let inner: Vec<&str> = name.split("::").skip(1).collect();
-            format!("·proofs.proofs.{}.", inner.join("."))
+            format!(".proofs.{}.", inner.join("."))
         };
-        let spec = |name: &str| {
-            let last = name.rsplit("::").next().unwrap_or_default();
-            format!("{}-spec", last.replace('_', "-"))
-        };
+        let spec = |name: &str| format!("{}_spec", name.rsplit("::").next().unwrap_or_default());
         let text = original
             .replace(&path(&self.original), &path(&self.name))
             .replace(&spec(&self.original), &spec(&self.name));
@@ -84,25 +81,23 @@ impl Twin {
 fn callees(all: &Catalogue, mutant: &Mutant) -> Option<(String, String)> {
     let change = &mutant.change;
     let old = &all.sources[mutant.source].file.source[change.from..change.to];
-    let last = |path: &str| {
-        path.rsplit("::")
-            .next()
-            .unwrap_or_default()
-            .replace('_', "-")
-    };
+    let last = |path: &str| path.rsplit("::").next().unwrap_or_default().to_string();
     (change.kind == Kind::Callee).then(|| (last(old), last(&change.new)))
 }
 
-// What a proof knows of a call is `.both` after it, and the facts at hand there are `After-both`.
+// What a proof knows of a call of `both` is `.both.` and what it must show there `both-requires`.
 fn renamed(proof: &str, old: &str, new: &str) -> String {
     let mut text = proof.to_string();
-    for before in [" .", "After-"] {
-        for after in [" ", ")", ";", ",", "\n"] {
-            text = text.replace(
-                &format!("{before}{old}{after}"),
-                &format!("{before}{new}{after}"),
-            );
-        }
+    for (before, after) in [
+        (".", "."),
+        (".", "-requires"),
+        (" ", "-requires"),
+        ("\n", "-requires"),
+    ] {
+        text = text.replace(
+            &format!("{before}{old}{after}"),
+            &format!("{before}{new}{after}"),
+        );
     }
     text
 }
@@ -135,8 +130,9 @@ mod tests {
 
     #[test]
     fn a_call_of_another_goes_by_its_name() {
-        let proof = "a : (c : tie.After-both) → c .both .result ≡ c .before .both-2\n";
-        let expected = "a : (c : tie.After-either) → c .either .result ≡ c .before .both-2\n";
+        let proof =
+            "pub both-requires : goal.both-requires\nboth-requires c = f c.both.result c.both-2\n";
+        let expected = "pub either-requires : goal.either-requires\neither-requires c = f c.either.result c.both-2\n";
         assert_eq!(renamed(proof, "both", "either"), expected);
     }
 
@@ -144,8 +140,8 @@ mod tests {
     fn the_proof_goes_with_its_twin() {
         let all = catalogue();
         let (_, twins) = added(&all, &[&all.mutants[1]]);
-        let proof = "use Rattle·stiffness·proofs.proofs.section.Section.g_h.Tie as tie\npub g-h-spec : statement g\n";
-        let expected = "use Rattle·stiffness·proofs.proofs.section.Section.g_h_mutant0.Tie as tie\npub g-h-mutant0-spec : statement g\n";
+        let proof = "use Rattle.stiffness.proofs.section.Section.g_h.Tie as tie\npub g_h_spec : {M : Type 1} → statement M\n";
+        let expected = "use Rattle.stiffness.proofs.section.Section.g_h_mutant0.Tie as tie\npub g_h_mutant0_spec : {M : Type 1} → statement M\n";
         assert_eq!(twins[0].proof(proof), expected);
         let (own, original) = twins[0].folders();
         assert_eq!(own, PathBuf::from("section/Section/g_h_mutant0"));
