@@ -1,7 +1,7 @@
 -- What checks 1 to 3 leave, as the later ones ask for it: record 0 lies in the file, then so does every record that nx and ny ask.
 -- A kind's records end where the next kind starts, and the last kind's at the record count (Places.start_past).
 -- Assumes nothing.
-use Prim.Native.Nat.{ℕ, ◌+◌, ◌*◌, ◌≤◌}
+use Prim.Native.Nat.{ℕ, ◌*◌, ◌≤◌}
 use mathlib.Core.Bool.{Bool, true, false, not}
 use mathlib.Core.List.{List}
 use mathlib.Core.Path.{◌≡◌, sym, ◌∙◌}

@@ -15,12 +15,12 @@ use Rattle.plan.specs.declared.ways.Way.TheVariants.{X, Y}
 use Rattle.plan.specs.declared.ways.End.{End}
 use Rattle.plan.specs.declared.ways.End.TheVariants.{Low, High}
 use Rattle.plan.specs.Ways.{across, span_kind, line_kind, side_unit}
-use Rattle.plan.specs.Plan.{bays, value, dead, live, column, side, span, beam_width, beam_depth, bays_of}
+use Rattle.plan.specs.Plan.{bays, value, column, side, beam_width, beam_depth, bays_of}
 use Rattle.layouts.specs.Layouts.{layout_of}
 use Rattle.changes.specs.Change.{change_kind, change_index, changed}
 use Rattle.changes.specs.Meaning.{TakenChange}
 use Rattle.changes.proofs.Kept.{Other, bays_kept, kept}
-use Rattle.lines.specs.Lines.{outer, below, above}
+use Rattle.lines.specs.Lines.{below}
 use Rattle.lines.specs.Slabs.{slab_of}
 use Rattle.spans.specs.Views.{line_view, end_line, outer_end, inner_end, low_end, high_end, view_of}
 use Rattle.tables.specs.Places.{Place}

@@ -1,7 +1,7 @@
 -- The limits that a query sets are 01's three inequalities: n ≤ k·As is "As is at least n/k rounded up", k·As ≤ n is "at most n/k rounded down".
 -- Every area within the strain limit lies left of the parabola's top, so what is in 01's brackets is not negative there, and the tangent rises.
 -- Assumes nothing.
-use Prim.Native.Nat.{ℕ, ◌-◌, ◌*◌, ◌/◌, ◌≤◌, ◌<◌}
+use Prim.Native.Nat.{ℕ, ◌*◌, ◌/◌, ◌≤◌, ◌<◌}
 use mathlib.Core.Bool.{Bool, true, false, cond}
 use mathlib.Core.Logic.{◌↔◌}
 use mathlib.Core.Path.{◌≡◌}

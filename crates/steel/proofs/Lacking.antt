@@ -14,7 +14,7 @@ use lib.Dec.{eqb}
 use lib.ListN.{length}
 use borrow.Author.Tests.{not-false}
 use Rattle.numbers.specs.Tests.{until, all, Some}
-use Rattle.numbers.specs.Least.{Least, least_one}
+use Rattle.numbers.specs.Least.{least_one}
 use Rattle.numbers.proofs.Tests.{says_eq}
 use Rattle.floor.specs.Refusal.{refusal}
 use Rattle.answers.specs.declared.Answer.{Answer}

@@ -27,7 +27,7 @@ use Rattle.tables.specs.Width.{record_width}
 use Rattle.tables.specs.Places.{record_count, place_of}
 use Rattle.tables.proofs.Numbered.{count_most, place_inside, place_number}
 use Rattle.bars.specs.declared.entry.Entry.{Entry}
-use Rattle.bars.specs.Entries.{number_bytes, entry_numbers, four_bytes, eight_of, entry_at}
+use Rattle.bars.specs.Entries.{number_bytes, entry_numbers, entry_at}
 use Rattle.frames.specs.declared.span.Span.{Span}
 use Rattle.frames.specs.Asked.{InTable, AtRecord}
 use Rattle.frames.specs.Table.{view_at, record_at, named_written}

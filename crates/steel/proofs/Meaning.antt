@@ -36,9 +36,8 @@ use Rattle.tables.proofs.Numbered.{count_most}
 use Rattle.bars.specs.declared.entry.Entry.{Entry}
 use Rattle.bars.specs.Entries.{number_bytes, entry_numbers, four_bytes, eight_of}
 use Rattle.bars.proofs.Bytes.{reads_back}
-use Rattle.frames.specs.Spans.{span_at}
 use Rattle.steel.specs.declared.strip.Reinforcement.{Reinforcement}
-use Rattle.steel.specs.Strips.{strips, span_numbers, span_bytes, materials_of, entry_of, strip_bytes}
+use Rattle.steel.specs.Strips.{strips, span_numbers, span_bytes, entry_of, strip_bytes}
 use Rattle.steel.specs.Barred.{StripSteel, AllBarred, query_in}
 use Rattle.steel.specs.Schedule.{schedule_count, schedule_length, entry_in, all_barred, schedule_bytes, scheduled, schedule_checks, schedule_number, schedule_answer, Scheduled}
 use Rattle.steel.specs.Meaning.{steel_in, EntrySays, byte_at, WrittenAt, ScheduleOf, ScheduleAnswer, schedule_most, roomy_checks}

@@ -12,7 +12,7 @@ use native.Mathlib.Omega.{arith}
 use lib.Dec.{leb, eqb}
 use lib.ListN.{length}
 use borrow.Author.Tests.{ne_eqb, le-leb, lt-leb, eq-eqb}
-use Rattle.numbers.specs.Chains.{Chain, tried}
+use Rattle.numbers.specs.Chains.{tried}
 use Rattle.numbers.specs.Chains.Check.{◌unless◌says◌}
 use Rattle.numbers.proofs.Chains.{stands, decides, stopped, went_on, ended}
 use Rattle.floor.specs.Refusal.{floor_checks, refusal}

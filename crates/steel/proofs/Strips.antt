@@ -10,18 +10,16 @@ use native.Mathlib.Omega.{arith}
 use lib.Dec.{eqb}
 use Rattle.numbers.specs.Tests.{Says}
 use Rattle.numbers.proofs.Tests.{says_not, says_eq, says_as}
-use Rattle.answers.specs.declared.Answer.{Answer}
 use Rattle.answers.specs.Answers.{answer}
 use Rattle.answers.proofs.Answers.{same_answer}
-use Rattle.bars.specs.declared.choice.Bars.{Bars}
 use Rattle.bars.specs.Choice.{bars, bars_for}
-use Rattle.bars.specs.Meaning.{Bar, Chosen}
+use Rattle.bars.specs.Meaning.{Bar}
 use Rattle.bars.specs.Meaning.Bar.{ten, twelve, sixteen}
 use Rattle.bars.proofs.Chosen.{choice_is, chosen_one}
 use Rattle.steel.specs.declared.query.Query.{Query}
 use Rattle.steel.specs.declared.strip.Reinforcement.{Reinforcement}
 use Rattle.steel.specs.Steel.{SteelAnswer, steel_of}
-use Rattle.steel.specs.Strips.{nothing, laid, reinforcement_of}
+use Rattle.steel.specs.Strips.{laid, reinforcement_of}
 use Rattle.steel.specs.Barred.{StripSteel}
 use Rattle.steel.proofs.Answers.{steel_answer, steel_answer_one}
 use Rattle.steel.proofs.Reinforced.{no_width, no_area, laid_is, reinforced}

@@ -1,6 +1,6 @@
 -- "Slab steel": what is asked of a whole area As.
 -- Assumes nothing.
-use Rattle.std.specs.Prelude.{ℕ, ◌-◌, ◌*◌, ◌≤◌, cond, eqb, leb, ℤ, pos, ◌-ℤ◌, ◌*ℤ◌, ◌≤ℤ◌}
+use Rattle.std.specs.Prelude.{ℕ, ◌-◌, ◌*◌, ◌≤◌, cond, eqb, leb, pos, ◌-ℤ◌, ◌*ℤ◌, ◌≤ℤ◌}
 use Rattle.steel.specs.declared.query.Query.{Query}
 use Rattle.steel.specs.Query.{depth_of}
 

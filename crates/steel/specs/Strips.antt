@@ -3,7 +3,6 @@
 -- Assumes nothing.
 use Rattle.std.specs.Prelude.{ℕ, ◌+◌, ◌-◌, ◌/◌, ◌%◌, Bool, cond, not, List, eqb, get_or}
 use Rattle.numbers.specs.Tests.{all}
-use Rattle.answers.specs.declared.Answer.{Answer}
 use Rattle.plan.specs.declared.ways.Way.{Way}
 use Rattle.plan.specs.Ways.{pick}
 use Rattle.plan.specs.Plan.{thickness, strength, grade}

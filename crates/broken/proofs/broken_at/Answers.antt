@@ -1,6 +1,5 @@
 -- Limit by limit, the test of its own.
 -- Assumes nothing.
-use borrow.Author.Rules.{rules}
 use Rattle.verdict.proofs.Sum.{heavy_is, thin_of}
 use Rattle.broken.proofs.Tests.{few_at, place_as, panel_asks, slender_asks, uneven_asks, astray_asks}
 use Rattle.broken.proofs.broken_at.Goals as goal

@@ -1,6 +1,5 @@
 -- Limit by limit.
 -- Assumes nothing.
-use borrow.Author.Rules.{rules}
 use Rattle.broken.proofs.extent.Goals as goal
 
 pub returns-in-Few : goal.returns-in-Few

@@ -1,6 +1,5 @@
 -- So many numbers always suffice (Most); fewer are held against the count.
 -- Assumes nothing.
-use borrow.Author.Rules.{rules}
 use Rattle.broken.proofs.Answers.{counted_room}
 use Rattle.broken.proofs.Most.{sure_room}
 use Rattle.broken.proofs.has_room.Goals as goal

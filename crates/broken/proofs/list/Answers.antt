@@ -1,7 +1,6 @@
 -- No room, or room for all of them.
 -- Assumes nothing.
 use mathlib.Core.Path.{◌∙◌}
-use borrow.Author.Rules.{rules}
 use Rattle.lines.proofs.Slabs.{sized_of}
 use Rattle.broken.proofs.Answers.{too_short, written}
 use mathlib.Core.Path.{ap}

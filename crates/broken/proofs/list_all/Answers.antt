@@ -1,11 +1,8 @@
 -- The loop's invariant: the limits passed are listed, and no other.
 -- Assumes nothing.
-use Prim.Native.Nat.{◌*◌, ◌-◌, ◌≤◌, zero-le}
+use Prim.Native.Nat.{zero-le}
 use native.Mathlib.Omega.{arith}
 use borrow.Author.Rules.{rules}
-use Rattle.limits.specs.Places.{limit_at}
-use Rattle.broken.specs.Listing.{gathered, limit_places}
-use Rattle.broken.specs.Laid.{Listed}
 use Rattle.broken.proofs.Laid.{none, next, length_listed}
 use Rattle.broken.proofs.Walk.{limit_turn, skipped_turn, all_done}
 use Rattle.broken.proofs.list_all.Goals as goal
@@ -23,12 +20,12 @@ loop-k-preserved c =
     let b = c.requires in
     let e = c.limit_at-limit.ensures in
     elim c.if-v-number-eq1.branch [
-      then-v-number-eq1 w ↦
-        let q = limit_turn _ e w.list_limit-n.ensures w.places-is w.n-is in
-        (search rules, next l.k _ l.invariant.1 q.0, omega (arith, q.1, l.invariant.2))
+      | then-v-number-eq1 w ↦
+          let q = limit_turn _ e w.list_limit-n.ensures w.places-is w.n-is in
+          (search rules, next l.k _ l.invariant.1 q.0, omega (arith, q.1, l.invariant.2))
       | else-v-number-eq1 w ↦
-        let q = skipped_turn b e c.number.ensures.0 w.if-v-number-eq1.false w.places-is w.n-is in
-        (search rules, next l.k _ l.invariant.1 q.0, omega (arith, q.1, l.invariant.2))
+          let q = skipped_turn b e c.number.ensures.0 w.if-v-number-eq1.false w.places-is w.n-is in
+          (search rules, next l.k _ l.invariant.1 q.0, omega (arith, q.1, l.invariant.2))
     ]
 
 pub shape_of-places : goal.shape_of-places

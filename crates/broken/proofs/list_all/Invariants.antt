@@ -1,14 +1,9 @@
 -- The loop's invariant: the limits passed are listed, and no other.
 -- Assumes nothing.
-use Prim.Native.Nat.{◌*◌, ◌-◌, ◌≤◌, zero-le}
-use mathlib.Core.Logic.{⊎_elim}
-use native.Mathlib.Omega.{arith}
-use borrow.Author.Rules.{rules}
+use Prim.Native.Nat.{◌*◌, ◌-◌, ◌≤◌}
 use Rattle.limits.specs.Places.{limit_at}
 use Rattle.broken.specs.Listing.{gathered, limit_places}
 use Rattle.broken.specs.Laid.{Listed}
-use Rattle.broken.proofs.Laid.{none, next, length_listed}
-use Rattle.broken.proofs.Walk.{limit_turn, skipped_turn, all_done}
 use Rattle.broken.proofs.list_all.Given as goal
 
 abbrev pub invariant-loop-k : goal.invariant-loop-k

@@ -1,10 +1,8 @@
 -- The loop's invariant: the rows passed are listed, and no other.
 -- Assumes nothing.
-use Prim.Native.Nat.{◌+◌, ◌*◌, ◌-◌, ◌≤◌, zero-le}
+use Prim.Native.Nat.{zero-le}
 use native.Mathlib.Omega.{arith}
 use borrow.Author.Rules.{rules}
-use Rattle.broken.specs.Listing.{gathered, row_places}
-use Rattle.broken.specs.Laid.{Listed}
 use Rattle.broken.proofs.Tests.{bays_some, extent_most, in_row}
 use Rattle.broken.proofs.Laid.{none, next, length_listed}
 use Rattle.broken.proofs.Walk.{along_done}

@@ -1,7 +1,6 @@
 -- Along x, then along y.
 -- Assumes nothing.
 use native.Mathlib.Omega.{arith}
-use borrow.Author.Rules.{rules}
 use Rattle.broken.specs.Listing.{limit_places}
 use Rattle.broken.proofs.Laid.{listed_more}
 use Rattle.broken.proofs.list_limit.Goals as goal

@@ -1,11 +1,9 @@
 -- The loop's invariant: the places passed are listed, and no other.
 -- Assumes nothing.
-use Prim.Native.Nat.{◌+◌, ◌-◌, ◌≤◌, zero-le}
+use Prim.Native.Nat.{zero-le}
 use mathlib.Core.Path.{sym, ◌∙◌}
 use native.Mathlib.Omega.{arith}
 use borrow.Author.Rules.{rules}
-use Rattle.broken.specs.Listing.{gathered, one_place}
-use Rattle.broken.specs.Laid.{Listed}
 use Rattle.broken.proofs.Tests.{bays_some, extent_most, at_place}
 use Rattle.broken.proofs.Laid.{found_turn, missed_turn, none, next, length_listed}
 use Rattle.broken.proofs.Walk.{row_done}
@@ -35,12 +33,12 @@ loop-i-preserved c =
     let l = c.loop-i in
     let e = c.broken_at.ensures in
     elim c.if-broken_at.branch [
-      then-broken_at w ↦
-        let q = found_turn _ _ (sym e ∙ w.if-broken_at.true) (w.places-is ∙ w.note.ensures) w.m-is in
-        (search rules, next l.i _ l.invariant.1 q.0, omega (arith, q.1, l.invariant.2))
+      | then-broken_at w ↦
+          let q = found_turn _ _ (sym e ∙ w.if-broken_at.true) (w.places-is ∙ w.note.ensures) w.m-is in
+          (search rules, next l.i _ l.invariant.1 q.0, omega (arith, q.1, l.invariant.2))
       | else-broken_at w ↦
-        let q = missed_turn _ _ (sym e ∙ w.if-broken_at.false) w.places-is w.m-is in
-        (search rules, next l.i _ l.invariant.1 q.0, omega (arith, q.1, l.invariant.2))
+          let q = missed_turn _ _ (sym e ∙ w.if-broken_at.false) w.places-is w.m-is in
+          (search rules, next l.i _ l.invariant.1 q.0, omega (arith, q.1, l.invariant.2))
     ]
 
 pub shape_of-places : goal.shape_of-places

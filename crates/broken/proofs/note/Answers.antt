@@ -1,7 +1,6 @@
 -- A place's numbers are as many as it is wide, and stand where the places before it end.
 -- Assumes nothing.
 use native.Mathlib.Omega.{arith}
-use borrow.Author.Rules.{rules}
 use Rattle.broken.proofs.Laid.{noted_in, noted_out}
 use Rattle.broken.proofs.note.Goals as goal
 

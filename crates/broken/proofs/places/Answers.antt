@@ -1,7 +1,6 @@
 -- Refused, or the floor is accepted and its places are listed.
 -- Assumes nothing.
 use mathlib.Core.Path.{◌∙◌}
-use borrow.Author.Rules.{rules}
 use Rattle.broken.proofs.Answers.{floor_refuses, refused_is}
 use Rattle.broken.proofs.places.Goals as goal
 

@@ -1,6 +1,5 @@
 -- By cases of the direction.
 -- Assumes nothing.
-use borrow.Author.Rules.{rules}
 use Rattle.broken.proofs.undirected.Goals as goal
 
 pub returns-in-Y : goal.returns-in-Y

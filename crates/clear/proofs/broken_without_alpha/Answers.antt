@@ -1,6 +1,5 @@
 -- Each callee's equation in turn, by cases.
 -- Assumes nothing.
-use borrow.Author.Rules.{rules}
 use Rattle.plan.specs.declared.ways.Way.TheVariants.{X, Y}
 use Rattle.places.proofs.AtPlace.{along_of}
 use Rattle.clear.proofs.broken_without_alpha.Goals as goal

@@ -2,7 +2,6 @@
 -- Assumes nothing.
 use mathlib.Core.Path.{ap, sym, ◌∙◌}
 use borrow.Author.Tests.{eq-eqb, ne_eqb}
-use borrow.Author.Rules.{rules}
 use Rattle.answers.specs.Answers.{answer}
 use Rattle.clear.specs.Answers.{yes_no, clear_of}
 use Rattle.clear.proofs.clear.Goals as goal

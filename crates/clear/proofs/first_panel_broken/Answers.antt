@@ -1,6 +1,5 @@
 -- Each callee's equation in turn, by cases.
 -- Assumes nothing.
-use borrow.Author.Rules.{rules}
 use Rattle.verdict.proofs.Sum.{thin_of}
 use Rattle.clear.proofs.first_panel_broken.Goals as goal
 

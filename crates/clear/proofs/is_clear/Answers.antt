@@ -1,6 +1,5 @@
 -- Each step's own answer, where it stops; what is not asked then is not needed (Verdict).
 -- Assumes nothing.
-use borrow.Author.Rules.{rules}
 use Rattle.lines.proofs.Slabs.{sized_of}
 use Rattle.clear.proofs.Verdict.{by_floor, first_at, by_first, by_lines, by_panels}
 use Rattle.clear.proofs.is_clear.Goals as goal

@@ -1,6 +1,5 @@
 -- α of every line once, then each callee's equation, by cases.
 -- Assumes nothing.
-use borrow.Author.Rules.{rules}
 use Rattle.clear.proofs.panels_broken.Goals as goal
 
 pub returns-then-unbalanced : goal.returns-then-unbalanced

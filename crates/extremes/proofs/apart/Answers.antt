@@ -1,6 +1,5 @@
 -- The ends of either list decide (Panels).
 -- Assumes nothing.
-use borrow.Author.Rules.{rules}
 use Rattle.extremes.proofs.Panels.{ends_in, apart_is}
 use Rattle.extremes.proofs.apart.Goals as goal
 

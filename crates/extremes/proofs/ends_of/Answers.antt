@@ -1,9 +1,7 @@
 -- The loop's invariant: the least and the most of the values passed.
 -- Assumes nothing.
-use Prim.Native.Nat.{◌-◌, ◌≤◌}
-use mathlib.Core.Path.{◌≡◌, refl}
+use mathlib.Core.Path.{refl}
 use native.Mathlib.Omega.{arith}
-use lib.ListN.{get_or}
 use borrow.Author.Rules.{rules}
 use Rattle.numbers.specs.Extremes.{most_of, least_of}
 use Rattle.numbers.proofs.Extremes.{most_more, least_more}
@@ -29,10 +27,10 @@ overflow_add-i c = omega (arith, c.requires.few)
 pub loop-i-preserved : goal.loop-i-preserved
 unfolding most_of least_of
 loop-i-preserved c = let p = c.loop-i in (
-      search rules,
-      rw (least_more p.i _, ← p.invariant.1) c.smaller-least.ensures,
-      rw (most_more p.i _, ← p.invariant.2) c.larger-most.ensures,
-    )
+  search rules,
+  rw (least_more p.i _, ← p.invariant.1) c.smaller-least.ensures,
+  rw (most_more p.i _, ← p.invariant.2) c.larger-most.ensures,
+)
 
 pub returns : goal.returns
 unfolding most_of least_of

@@ -1,6 +1,5 @@
 -- The two α beside the bay, and its span, are in range.
 -- Assumes nothing.
-use borrow.Author.Rules.{rules}
 use Rattle.extremes.proofs.share_at.Goals as goal
 
 pub returns : goal.returns

@@ -1,13 +1,11 @@
 -- The loop's invariant: p or q of the bays passed is stored.
 -- Assumes nothing.
-use Prim.Native.Nat.{◌-◌, ◌≤◌}
-use mathlib.Core.Path.{◌≡◌, refl, ◌∙◌}
+use mathlib.Core.Path.{refl, ◌∙◌}
 use native.Mathlib.Nat.{not-suc-le-zero}
 use native.Mathlib.Omega.{arith}
-use lib.ListN.{length, length-set}
+use lib.ListN.{length-set}
 use borrow.Author.Rules.{rules}
-use Rattle.lines.proofs.Filled.{Filled, one_more}
-use Rattle.extremes.specs.Extremes.{share_at}
+use Rattle.lines.proofs.Filled.{one_more}
 use Rattle.extremes.proofs.Panels.{inside, bay_of, shares_of}
 use Rattle.extremes.proofs.shares.Goals as goal
 

@@ -1,14 +1,10 @@
 -- The loop's invariant: p or q of the bays passed is stored.
 -- Assumes nothing.
 use Prim.Native.Nat.{◌-◌, ◌≤◌}
-use mathlib.Core.Path.{◌≡◌, refl, ◌∙◌}
-use native.Mathlib.Nat.{not-suc-le-zero}
-use native.Mathlib.Omega.{arith}
-use lib.ListN.{length, length-set}
-use borrow.Author.Rules.{rules}
-use Rattle.lines.proofs.Filled.{Filled, one_more}
+use mathlib.Core.Path.{◌≡◌}
+use lib.ListN.{length}
+use Rattle.lines.proofs.Filled.{Filled}
 use Rattle.extremes.specs.Extremes.{share_at}
-use Rattle.extremes.proofs.Panels.{inside, bay_of, shares_of}
 use Rattle.extremes.proofs.shares.Given as goal
 
 abbrev pub invariant-loop-k : goal.invariant-loop-k

@@ -1,7 +1,6 @@
 -- The spans of the two directions, twice as long as one another (Apart).
 -- Assumes nothing.
 use native.Mathlib.Omega.{arith}
-use borrow.Author.Rules.{rules}
 use Rattle.plan.specs.declared.ways.Way.TheVariants.{X, Y}
 use Rattle.lines.proofs.Slabs.{bays_of_lem}
 use Rattle.extremes.proofs.Panels.{spans_in, slender_is}

@@ -1,7 +1,6 @@
 -- Of the panel's two spans one exceeds twice the other, or neither does (Panels).
 -- Assumes nothing.
 use native.Mathlib.Omega.{arith}
-use borrow.Author.Rules.{rules}
 use Rattle.lines.proofs.Slabs.{panel_few}
 use Rattle.extremes.proofs.Panels.{spans_at, slender_one}
 use Rattle.extremes.proofs.slender_at.Goals as goal

@@ -1,7 +1,6 @@
 -- p and q of the two directions, five times one another (Apart), by cases of the layout.
 -- Assumes nothing.
 use native.Mathlib.Omega.{arith}
-use borrow.Author.Rules.{rules}
 use Rattle.plan.specs.declared.ways.Way.TheVariants.{X, Y}
 use Rattle.lines.proofs.Slabs.{bays_of_lem}
 use Rattle.extremes.proofs.Panels.{sharing_x, sharing_y, shares_in, beamed, beamless}

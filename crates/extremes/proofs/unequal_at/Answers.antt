@@ -1,6 +1,5 @@
 -- Of the panel's p and q one exceeds five times the other, or neither does, by cases of the layout (Panels).
 -- Assumes nothing.
-use borrow.Author.Rules.{rules}
 use Rattle.extremes.proofs.Panels.{bay_x, bay_y, unequal_one, bare_one}
 use Rattle.extremes.proofs.unequal_at.Goals as goal
 

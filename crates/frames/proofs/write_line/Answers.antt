@@ -1,7 +1,6 @@
 -- The spans named of a line are its records named, and where none is named nothing is to be written (Frames).
 -- Assumes nothing.
 use mathlib.Core.Path.{◌∙◌}
-use borrow.Author.Rules.{rules}
 use Rattle.frames.proofs.Frames.{naming, at_spans, line_is, line_left}
 use Rattle.frames.proofs.write_line.Goals as goal
 

@@ -1,19 +1,13 @@
 -- The loop's invariant: the named records of the lines passed are written, and nothing else.
 -- Assumes nothing.
-use Prim.Native.Nat.{◌+◌, ◌-◌, ◌*◌, ◌≤◌}
+use Prim.Native.Nat.{◌+◌}
 use mathlib.Core.Path.{◌≡◌, refl, ◌∙◌}
 use native.Mathlib.Omega.{arith}
 use borrow.Author.Rules.{rules}
-use lib.ListN.{length}
-use Rattle.numbers.specs.Records.{written_from}
 use Rattle.plan.specs.Ways.{across}
 use Rattle.plan.specs.Plan.{bays, last_line}
 use Rattle.plan.proofs.Reading.{bays_most}
-use Rattle.tables.specs.Width.{record_width}
-use Rattle.tables.specs.Places.{first_of}
-use Rattle.tables.specs.Named.{named_at}
 use Rattle.tables.proofs.Runs.{no_line, next_line}
-use Rattle.frames.specs.Table.{record_at}
 use Rattle.frames.proofs.Frames.{last_is, at_line}
 use Rattle.frames.proofs.write_lines.Goals as goal
 
@@ -27,13 +21,12 @@ pub overflow_add-l : goal.overflow_add-l
 overflow_add-l c = omega (arith, bays_most c.args.f.now (across c.args.d))
 
 pub loop-l-preserved : goal.loop-l-preserved
-loop-l-preserved c = let i = c.loop-l.invariant in
-    (
-      search rules,
-      i.1,
-      c.write_line.ensures ∙ next_line (bays c.args.f.now) (last_line c.args.f.now) _ _ _ _ c.args.d c.loop-l.l i.2,
-      search rules,
-    )
+loop-l-preserved c = let i = c.loop-l.invariant in (
+  search rules,
+  i.1,
+  c.write_line.ensures ∙ next_line (bays c.args.f.now) (last_line c.args.f.now) _ _ _ _ c.args.d c.loop-l.l i.2,
+  search rules,
+)
 
 pub returns : goal.returns
 returns c = let i = c.loop-l.invariant in

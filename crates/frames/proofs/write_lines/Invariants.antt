@@ -1,20 +1,14 @@
 -- The loop's invariant: the named records of the lines passed are written, and nothing else.
 -- Assumes nothing.
 use Prim.Native.Nat.{◌+◌, ◌-◌, ◌*◌, ◌≤◌}
-use mathlib.Core.Path.{◌≡◌, refl, ◌∙◌}
-use native.Mathlib.Omega.{arith}
-use borrow.Author.Rules.{rules}
+use mathlib.Core.Path.{◌≡◌}
 use lib.ListN.{length}
 use Rattle.numbers.specs.Records.{written_from}
-use Rattle.plan.specs.Ways.{across}
 use Rattle.plan.specs.Plan.{bays, last_line}
-use Rattle.plan.proofs.Reading.{bays_most}
 use Rattle.tables.specs.Width.{record_width}
 use Rattle.tables.specs.Places.{first_of}
 use Rattle.tables.specs.Named.{named_at}
-use Rattle.tables.proofs.Runs.{no_line, next_line}
 use Rattle.frames.specs.Table.{record_at}
-use Rattle.frames.proofs.Frames.{last_is, at_line}
 use Rattle.frames.proofs.write_lines.Given as goal
 
 abbrev pub invariant-loop-l : goal.invariant-loop-l

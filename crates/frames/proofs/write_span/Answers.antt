@@ -1,7 +1,6 @@
 -- The view that is read is the span's (Spans), so its record is the one that belongs here.
 -- Assumes nothing.
 use mathlib.Core.Path.{◌∙◌}
-use borrow.Author.Rules.{rules}
 use Rattle.frames.proofs.Spans.{slabbed, record_worked, record_is}
 use Rattle.frames.proofs.write_span.Goals as goal
 

@@ -1,17 +1,14 @@
 -- The loop's invariant: the records of the spans passed are written, and nothing else.
 -- Assumes nothing.
-use Prim.Native.Nat.{◌+◌, ◌-◌, ◌≤◌}
+use Prim.Native.Nat.{◌≤◌}
 use mathlib.Core.Path.{◌≡◌, refl, sym, ◌∙◌}
 use native.Mathlib.Nat.{sub_self}
 use native.Mathlib.Omega.{arith}
 use borrow.Author.Rules.{rules}
-use lib.ListN.{length}
-use Rattle.numbers.specs.Records.{written_from, every}
+use Rattle.numbers.specs.Records.{every}
 use Rattle.numbers.proofs.Bounded.{fits, ◌⊕◌}
 use Rattle.numbers.proofs.Written.{from_none}
 use Rattle.tables.specs.Width.{record_width}
-use Rattle.tables.specs.Places.{line_first}
-use Rattle.frames.specs.Table.{record_at}
 use Rattle.frames.proofs.Spans.{line_few, spans_few, on_line, first_is, line_worked, at_span, next_span}
 use Rattle.frames.proofs.write_spans.Goals as goal
 

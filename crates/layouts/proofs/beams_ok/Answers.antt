@@ -2,7 +2,6 @@
 -- Assumes nothing.
 use Rattle.layouts.specs.Layouts.{beams_ok}
 use Rattle.layouts.proofs.ByThree.{told_kept}
-use borrow.Author.Rules.{rules}
 use Rattle.layouts.proofs.beams_ok.Goals as goal
 
 pub returns : goal.returns

@@ -1,6 +1,5 @@
 -- The arm of each rule calls that rule's own test.
 -- Assumes nothing.
-use borrow.Author.Rules.{rules}
 use Rattle.layouts.proofs.keeps.Goals as goal
 
 pub returns-in-Columns : goal.returns-in-Columns

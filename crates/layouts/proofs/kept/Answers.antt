@@ -1,7 +1,6 @@
 -- Each callee's equation in turn.
 -- Assumes nothing.
 use Rattle.layouts.specs.Layouts.{kept}
-use borrow.Author.Rules.{rules}
 use Rattle.layouts.proofs.kept.Goals as goal
 
 pub returns : goal.returns

@@ -1,13 +1,10 @@
 -- The loop stops at the first span or line that breaks the rule.
 -- Assumes nothing.
 use Prim.Native.Nat.{◌≤◌, ◌-◌}
-use mathlib.Core.Bool.{true, false}
-use mathlib.Core.Path.{◌≡◌, sym, ◌∙◌}
-use borrow.Author.Rules.{rules}
-use borrow.Author.Tests.{not-true, not-false}
+use mathlib.Core.Bool.{true}
+use mathlib.Core.Path.{◌≡◌}
 use Rattle.numbers.specs.Tests.{all}
-use Rattle.numbers.proofs.Tests.{none, more, found, done}
-use Rattle.layouts.specs.Layouts.{keeps, kept_along}
+use Rattle.layouts.specs.Layouts.{keeps}
 use Rattle.layouts.proofs.kept_along.Given as goal
 
 abbrev pub invariant-loop-i : goal.invariant-loop-i

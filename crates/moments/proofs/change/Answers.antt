@@ -1,6 +1,5 @@
 -- Refused, or stored, judged afresh and rewritten (Ways).
 -- Assumes nothing.
-use borrow.Author.Rules.{rules}
 use Rattle.moments.specs.Lent.{lent}
 use Rattle.moments.proofs.Room.{changing_number}
 use Rattle.moments.proofs.Ways.{changed_refused, changed_takes, changed_placed, changed_settling, changed_taken, remade_by}

@@ -1,6 +1,5 @@
 -- All records named, or all of them zeros (Ways).
 -- Assumes nothing.
-use borrow.Author.Rules.{rules}
 use Rattle.moments.proofs.Ways.{in_table, few_bays, count_is, filled_all, filled_blank, loads_there}
 use Rattle.moments.proofs.fill.Goals as goal
 

@@ -1,7 +1,6 @@
 -- Both verdicts clear: the supports beside what is named; else those beside what a change of the loads names, which are all.
 -- Assumes nothing.
 use mathlib.Core.Path.{◌∙◌}
-use borrow.Author.Rules.{rules}
 use Rattle.moments.proofs.Ways.{all_supporting, all_governed}
 use Rattle.moments.proofs.govern.Goals as goal
 

@@ -1,6 +1,5 @@
 -- Refused, or settled as by a change of the loads, which names every record (Ways).
 -- Assumes nothing.
-use borrow.Author.Rules.{rules}
 use Rattle.moments.specs.Lent.{lent}
 use Rattle.moments.specs.Changing.{rewritten, regoverned}
 use Rattle.moments.proofs.Room.{opening_number}

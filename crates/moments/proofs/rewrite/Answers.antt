@@ -1,6 +1,5 @@
 -- Both verdicts clear: the records named; else the whole table.
 -- Assumes nothing.
-use borrow.Author.Rules.{rules}
 use Rattle.moments.proofs.Ways.{named_in_table, rewritten_named, rewritten_whole}
 use Rattle.moments.proofs.rewrite.Goals as goal
 

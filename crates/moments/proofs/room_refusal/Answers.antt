@@ -1,7 +1,6 @@
 -- By cases of the lengths of table and slice; records and supports are counted from the floor's bays.
 -- Assumes nothing.
 use mathlib.Core.Path.{ap, ◌∙◌}
-use borrow.Author.Rules.{rules}
 use borrow.Author.Tests.{lt-leb, le-leb}
 use Rattle.numbers.proofs.Chains.{stopped, went_on, ended}
 use Rattle.tables.proofs.Numbered.{bayed, counted}

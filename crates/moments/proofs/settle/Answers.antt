@@ -13,9 +13,9 @@ alphas-a-requires c = record { accepted = c.requires.accepted; shared = c.slab_o
 
 pub broken-v-requires : goal.broken-v-requires
 broken-v-requires c = record {
-      surveyed = record { accepted = c.requires.accepted; shared = c.slab_of-slab.ensures; spans = c.spans-s.ensures };
-      alphas = c.alphas-a.ensures.known;
-    }
+  surveyed = record { accepted = c.requires.accepted; shared = c.slab_of-slab.ensures; spans = c.spans-s.ensures };
+  alphas = c.alphas-a.ensures.known;
+}
 
 pub rewrite-requires : goal.rewrite-requires
 rewrite-requires c = let p = c.requires in

@@ -1,6 +1,5 @@
 -- By the test of the number.
 -- Assumes nothing.
-use borrow.Author.Rules.{rules}
 use borrow.Author.Tests.{eq-eqb, ne_eqb}
 use Rattle.moments.proofs.then_room.Goals as goal
 

@@ -1,14 +1,10 @@
 -- The loop's invariant: the shorter spans of the columns passed are stored.
 -- Assumes nothing.
 use Prim.Native.Nat.{◌+◌, ◌-◌, ◌≤◌}
-use mathlib.Core.Path.{◌≡◌, refl, ◌∙◌}
-use native.Mathlib.Nat.{not-suc-le-zero}
-use native.Mathlib.Omega.{arith}
-use lib.ListN.{get_or, length, length-set}
-use borrow.Author.Rules.{rules}
-use Rattle.lines.proofs.Filled.{Filled, one_more}
+use mathlib.Core.Path.{◌≡◌}
+use lib.ListN.{get_or, length}
+use Rattle.lines.proofs.Filled.{Filled}
 use Rattle.limits.specs.Limits.{lesser_at}
-use Rattle.places.proofs.AtPlace.{bays_in, end_of, adjoining_of}
 use Rattle.places.proofs.adjoining.Given as goal
 
 abbrev pub invariant-loop-k : goal.invariant-loop-k

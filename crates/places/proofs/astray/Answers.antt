@@ -1,6 +1,5 @@
 -- A row for each direction, and all columns.
 -- Assumes nothing.
-use borrow.Author.Rules.{rules}
 use Rattle.plan.specs.declared.ways.Way.TheVariants.{X, Y}
 use Rattle.places.proofs.AtPlace.{along_of, columns_of}
 use Rattle.places.proofs.astray.Goals as goal

@@ -1,6 +1,5 @@
 -- The row is the direction's, and the column is where one of its spans starts or ends (AtPlace).
 -- Assumes nothing.
-use borrow.Author.Rules.{rules}
 use Rattle.lines.proofs.Slabs.{sized_of}
 use Rattle.places.proofs.AtPlace.{row_there, column_end, along_is}
 use Rattle.places.proofs.astray_along.Goals as goal

@@ -1,7 +1,6 @@
 -- Each callee's equation in turn.
 -- Assumes nothing.
 use native.Mathlib.Omega.{arith}
-use borrow.Author.Rules.{rules}
 use Rattle.places.proofs.AtPlace.{column_is, column_few}
 use Rattle.places.proofs.astray_at.Goals as goal
 

@@ -1,12 +1,9 @@
 -- The loop stops at the first column of the row that is off its place.
 -- Assumes nothing.
 use Prim.Native.Nat.{◌+◌, ◌≤◌, ◌-◌}
-use mathlib.Core.Bool.{true, false}
-use mathlib.Core.Path.{◌≡◌, sym, ◌∙◌}
-use native.Mathlib.Omega.{arith}
-use borrow.Author.Rules.{rules}
+use mathlib.Core.Bool.{false}
+use mathlib.Core.Path.{◌≡◌}
 use Rattle.numbers.specs.Tests.{some}
-use Rattle.numbers.proofs.Tests.{none, more, found, done}
 use Rattle.limits.specs.Limits.{astray_column}
 use Rattle.places.proofs.astray_in_row.Given as goal
 

@@ -1,7 +1,6 @@
 -- Both indices are among the n spans; at either end they are the same.
 -- Assumes nothing.
 use native.Mathlib.Omega.{arith}
-use borrow.Author.Rules.{rules}
 use Rattle.places.proofs.AtPlace.{lesser_is}
 use Rattle.places.proofs.shorter_at.Goals as goal
 

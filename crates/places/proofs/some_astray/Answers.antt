@@ -1,15 +1,11 @@
 -- The loop stops at the first row with a column that is off its place.
 -- Assumes nothing.
-use Prim.Native.Nat.{◌+◌, ◌≤◌, ◌-◌}
-use mathlib.Core.Bool.{true, false}
-use mathlib.Core.Path.{◌≡◌, sym, ◌∙◌}
+use mathlib.Core.Bool.{true}
+use mathlib.Core.Path.{sym, ◌∙◌}
 use native.Mathlib.Omega.{arith}
 use borrow.Author.Rules.{rules}
-use Rattle.numbers.specs.Tests.{some}
 use Rattle.numbers.proofs.Tests.{none, more, found, done}
-use Rattle.plan.specs.declared.ways.Way.TheVariants.{X}
-use Rattle.plan.specs.Plan.{bays}
-use Rattle.limits.specs.Limits.{some_pair, astray_column, astray}
+use Rattle.limits.specs.Limits.{some_pair, astray}
 use Rattle.places.proofs.some_astray.Goals as goal
 
 pub loop-j-init : goal.loop-j-init

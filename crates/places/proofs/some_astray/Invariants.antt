@@ -1,15 +1,12 @@
 -- The loop stops at the first row with a column that is off its place.
 -- Assumes nothing.
 use Prim.Native.Nat.{◌+◌, ◌≤◌, ◌-◌}
-use mathlib.Core.Bool.{true, false}
-use mathlib.Core.Path.{◌≡◌, sym, ◌∙◌}
-use native.Mathlib.Omega.{arith}
-use borrow.Author.Rules.{rules}
+use mathlib.Core.Bool.{false}
+use mathlib.Core.Path.{◌≡◌}
 use Rattle.numbers.specs.Tests.{some}
-use Rattle.numbers.proofs.Tests.{none, more, found, done}
 use Rattle.plan.specs.declared.ways.Way.TheVariants.{X}
 use Rattle.plan.specs.Plan.{bays}
-use Rattle.limits.specs.Limits.{some_pair, astray_column, astray}
+use Rattle.limits.specs.Limits.{astray_column}
 use Rattle.places.proofs.some_astray.Given as goal
 
 abbrev pub invariant-loop-j : goal.invariant-loop-j

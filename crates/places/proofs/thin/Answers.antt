@@ -1,13 +1,9 @@
 -- The loops' invariants: no panel passed is too thin, in the row and in the rows before it. The walk is left at the first that is.
 -- Assumes nothing.
-use Prim.Native.Nat.{◌-◌, ◌≤◌}
-use mathlib.Core.Bool.{true, false}
-use mathlib.Core.Path.{◌≡◌}
+use mathlib.Core.Bool.{true}
 use borrow.Author.Rules.{rules}
-use Rattle.numbers.specs.Tests.{some}
 use Rattle.numbers.proofs.Tests.{none, more}
-use Rattle.limits.specs.Limits.{thin_panel}
-use Rattle.places.proofs.AtPlace.{panel_of, thin_row, row_thick, all_thick, one_thin, thin_is}
+use Rattle.places.proofs.AtPlace.{panel_of, row_thick, all_thick, one_thin, thin_is}
 use mathlib.Core.Path.{ap}
 use mathlib.Core.Bool.{not}
 use Rattle.places.proofs.thin.Goals as goal
@@ -35,7 +31,7 @@ returns c =
     let p = c.requires in
     let o = c.rows in
     elim c.rows-test.branch [
-      else-rows-test w ↦ all_thick p o.invariant.0 w.rows-test.false o.invariant.1
+      | else-rows-test w ↦ all_thick p o.invariant.0 w.rows-test.false o.invariant.1
       | then-rows-test+then-panels-test+then-not-thick_enough w ↦
-        one_thin p w.panels-test.true w.rows-test.true (thin_is _ _ _ w.thick_enough.ensures (ap not w.if-not-thick_enough.true))
+          one_thin p w.panels-test.true w.rows-test.true (thin_is _ _ _ w.thick_enough.ensures (ap not w.if-not-thick_enough.true))
     ]

@@ -1,16 +1,11 @@
 -- The loops' invariants: no panel passed is too thin, in the row and in the rows before it. The walk is left at the first that is.
 -- Assumes nothing.
 use Prim.Native.Nat.{◌-◌, ◌≤◌}
-use mathlib.Core.Bool.{true, false}
-use mathlib.Core.Logic.{⊎_elim}
+use mathlib.Core.Bool.{false}
 use mathlib.Core.Path.{◌≡◌}
-use borrow.Author.Rules.{rules}
 use Rattle.numbers.specs.Tests.{some}
-use Rattle.numbers.proofs.Tests.{none, more}
 use Rattle.limits.specs.Limits.{thin_panel}
-use Rattle.places.proofs.AtPlace.{panel_of, thin_row, row_thick, all_thick, one_thin, thin_is}
-use mathlib.Core.Path.{ap}
-use mathlib.Core.Bool.{not}
+use Rattle.places.proofs.AtPlace.{thin_row}
 use Rattle.places.proofs.thin.Given as goal
 
 abbrev pub invariant-panels : goal.invariant-panels

@@ -1,13 +1,11 @@
 -- The loop stops at the first two neighbours that are unlike.
 -- Assumes nothing.
-use Prim.Native.Nat.{◌≤◌, ◌-◌}
-use mathlib.Core.Bool.{true, false}
-use mathlib.Core.Path.{◌≡◌, sym, ◌∙◌}
+use mathlib.Core.Bool.{true}
+use mathlib.Core.Path.{sym, ◌∙◌}
 use native.Mathlib.Omega.{arith}
 use borrow.Author.Rules.{rules}
-use Rattle.numbers.specs.Tests.{some}
 use Rattle.numbers.proofs.Tests.{none, more, found, done}
-use Rattle.places.proofs.AtPlace.{unlike_at, bays_in, neighbours, uneven_is}
+use Rattle.places.proofs.AtPlace.{bays_in, neighbours, uneven_is}
 use Rattle.places.proofs.uneven.Goals as goal
 
 pub overflow_sub-last : goal.overflow_sub-last

@@ -1,13 +1,10 @@
 -- The loop stops at the first two neighbours that are unlike.
 -- Assumes nothing.
 use Prim.Native.Nat.{◌≤◌, ◌-◌}
-use mathlib.Core.Bool.{true, false}
-use mathlib.Core.Path.{◌≡◌, sym, ◌∙◌}
-use native.Mathlib.Omega.{arith}
-use borrow.Author.Rules.{rules}
+use mathlib.Core.Bool.{false}
+use mathlib.Core.Path.{◌≡◌}
 use Rattle.numbers.specs.Tests.{some}
-use Rattle.numbers.proofs.Tests.{none, more, found, done}
-use Rattle.places.proofs.AtPlace.{unlike_at, bays_in, neighbours, uneven_is}
+use Rattle.places.proofs.AtPlace.{unlike_at}
 use Rattle.places.proofs.uneven.Given as goal
 
 abbrev pub invariant-loop-k : goal.invariant-loop-k

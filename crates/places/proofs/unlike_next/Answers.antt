@@ -1,7 +1,6 @@
 -- The row is the direction's, and both spans are in it (AtPlace).
 -- Assumes nothing.
 use native.Mathlib.Omega.{arith}
-use borrow.Author.Rules.{rules}
 use Rattle.places.proofs.AtPlace.{row_there, next_few, two_spans, next_is}
 use Rattle.places.proofs.unlike_next.Goals as goal
 

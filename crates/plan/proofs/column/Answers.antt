@@ -1,6 +1,5 @@
 -- Each callee's equation in turn.
 -- Assumes nothing.
-use borrow.Author.Rules.{rules}
 use Rattle.plan.proofs.column.Goals as goal
 
 pub returns : goal.returns

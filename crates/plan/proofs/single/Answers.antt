@@ -1,6 +1,5 @@
 -- The record of a kind that has one stands at the same place in every floor (one_record).
 -- Assumes nothing.
-use borrow.Author.Rules.{rules}
 use Rattle.plan.proofs.Reading.{one_record}
 use Rattle.plan.proofs.single.Goals as goal
 

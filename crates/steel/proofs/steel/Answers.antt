@@ -1,8 +1,6 @@
 -- By cases of the range; within it the search's answer over the query's limits.
 -- Assumes nothing.
 use mathlib.Core.Path.{sym, ◌∙◌}
-use borrow.Author.Rules.{rules}
-use Rattle.steel.specs.Query.{InRange}
 use Rattle.steel.specs.Steel.{steel_of}
 use Rattle.steel.proofs.Ranges.{says_in_range}
 use Rattle.steel.proofs.Bounds.{searchable}

@@ -1,7 +1,6 @@
 -- By cases of the test.
 -- Assumes nothing.
 use native.Mathlib.Omega.{arith}
-use borrow.Author.Rules.{rules}
 use Rattle.thickness.proofs.allows.Goals as goal
 
 pub returns-then-needed : goal.returns-then-needed

@@ -1,6 +1,5 @@
 -- The table's entry at the row and the column.
 -- Assumes nothing.
-use borrow.Author.Rules.{rules}
 use Rattle.numbers.proofs.Bounded.{ranged}
 use Rattle.thickness.specs.LeastThickness.{divisor}
 use Rattle.thickness.proofs.Thinnest.{divisor_in}

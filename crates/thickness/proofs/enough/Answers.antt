@@ -1,7 +1,6 @@
 -- The rule's numbers, and a slab's multiple of them fits; t is held against ten percent more by the largest answer that it allows.
 -- Assumes nothing.
 use native.Mathlib.Omega.{arith}
-use borrow.Author.Rules.{rules}
 use Rattle.numbers.proofs.Bounded.{◌⊗◌}
 use Rattle.thickness.specs.LeastThickness.{answer_of01, raises, least_thickness}
 use Rattle.thickness.proofs.Thinnest.{allowed}
@@ -10,9 +9,9 @@ use Rattle.thickness.proofs.enough.Goals as goal
 pub reaches-requires : goal.reaches-requires
 unfolding least_thickness
 reaches-requires c = record {
-      positive = c.rule_of-rule.ensures.positive;
-      room = omega (arith, c.allows.ensures.1 ⊗ c.rule_of-rule.ensures.d_most);
-    }
+  positive = c.rule_of-rule.ensures.positive;
+  room = omega (arith, c.allows.ensures.1 ⊗ c.rule_of-rule.ensures.d_most);
+}
 
 pub returns : goal.returns
 unfolding least_thickness

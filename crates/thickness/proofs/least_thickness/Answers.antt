@@ -1,7 +1,6 @@
 -- The rule's number is the answer of 01, and with ten percent more where it is needed the definition's, of which the promise holds.
 -- Assumes nothing.
 use mathlib.Core.Path.{◌∙◌}
-use borrow.Author.Rules.{rules}
 use Rattle.thickness.specs.LeastThickness.{least_thickness}
 use Rattle.thickness.proofs.Thinnest.{answered, thinnest}
 use Rattle.thickness.proofs.least_thickness.Goals as goal

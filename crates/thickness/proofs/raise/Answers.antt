@@ -1,6 +1,5 @@
 -- By cases of the test.
 -- Assumes nothing.
-use borrow.Author.Rules.{rules}
 use Rattle.thickness.specs.LeastThickness.{raised}
 use Rattle.thickness.proofs.raise.Goals as goal
 

@@ -1,6 +1,5 @@
 -- By cases of the first test.
 -- Assumes nothing.
-use borrow.Author.Rules.{rules}
 use Rattle.thickness.specs.LeastThickness.{raises}
 use Rattle.thickness.proofs.raises.Goals as goal
 

@@ -1,6 +1,5 @@
 -- The rule that the tests pick asks the definition's number.
 -- Assumes nothing.
-use borrow.Author.Rules.{rules}
 use borrow.Author.Tests.{lt-ltb, le-ltb}
 use Rattle.thickness.specs.LeastThickness.{answer_of01}
 use Rattle.thickness.proofs.rule_of.Goals as goal
@@ -19,7 +18,7 @@ unfolding answer_of01
 returns c =
     let e = rw c.divisor.ensures.0 at c.tabled.ensures in
     elim c.if-p.branch [
-      then-p+else-p-gt80000+else-p-gt8000 w ↦
-        rw (w.if-p.true, le-ltb _ _ w.if-p-gt80000.false, le-ltb _ _ w.if-p-gt8000.false) e
+      | then-p+else-p-gt80000+else-p-gt8000 w ↦
+          rw (w.if-p.true, le-ltb _ _ w.if-p-gt80000.false, le-ltb _ _ w.if-p-gt8000.false) e
       | else-p w ↦ rw w.if-p.false e
     ]

@@ -1,6 +1,5 @@
 -- The sum of what each limit answers (Sum).
 -- Assumes nothing.
-use borrow.Author.Rules.{rules}
 use Rattle.plan.specs.declared.ways.Way.TheVariants.{X, Y}
 use Rattle.places.proofs.AtPlace.{along_of}
 use Rattle.verdict.proofs.Sum.{summed}
@@ -20,7 +19,7 @@ astray-requires c = c.requires.surveyed
 
 pub returns : goal.returns
 returns c = (
-      summed _ c.requires.surveyed.shared c.few.ensures c.slender.ensures c.uneven-x.ensures c.uneven-y.ensures c.either.ensures c.astray.ensures
-          c.heavy.ensures c.unbalanced.ensures c.thin.ensures c.sum_of.ensures.0,
-      c.sum_of.ensures.1,
-    )
+  summed _ c.requires.surveyed.shared c.few.ensures c.slender.ensures c.uneven-x.ensures c.uneven-y.ensures c.either.ensures c.astray.ensures
+      c.heavy.ensures c.unbalanced.ensures c.thin.ensures c.sum_of.ensures.0,
+  c.sum_of.ensures.1,
+)

@@ -1,6 +1,5 @@
 -- The bays of a panel that is there are below 12, and its thickness is small.
 -- Assumes nothing.
-use borrow.Author.Rules.{rules}
 use Rattle.numbers.proofs.Bounded.{fits}
 use Rattle.lines.proofs.Slabs.{sized_of}
 use Rattle.verdict.proofs.Query.{bays_few, panel_at_hand}

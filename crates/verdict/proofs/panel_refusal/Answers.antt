@@ -1,6 +1,5 @@
 -- The floor's number stands, or the panel decides.
 -- Assumes nothing.
-use borrow.Author.Rules.{rules}
 use Rattle.numbers.proofs.Chains.{stands, decides, refused, passed, ended}
 use Rattle.floor.specs.Refusal.{floor_checks, refusal}
 use Rattle.floor.proofs.Meaning.{sound_floor}

@@ -1,6 +1,5 @@
 -- All that `broken` asks for, worked out once.
 -- Assumes nothing.
-use borrow.Author.Rules.{rules}
 use Rattle.lines.proofs.Slabs.{sized_of}
 use Rattle.verdict.proofs.verdict.Goals as goal
 

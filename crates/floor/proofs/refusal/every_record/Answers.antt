@@ -1,14 +1,10 @@
 -- The loop stops at the first kind with a record that fails the check; the offsets decide last.
 -- Assumes nothing.
-use Prim.Native.Nat.{◌≤◌, ◌-◌}
-use mathlib.Core.Bool.{true, false}
-use mathlib.Core.Path.{◌≡◌, sym, ◌∙◌}
+use mathlib.Core.Bool.{false}
+use mathlib.Core.Path.{sym, ◌∙◌}
 use native.Mathlib.Omega.{arith}
-use borrow.Author.Tests.{not-true, not-false}
-use Rattle.numbers.specs.Tests.{all}
 use Rattle.numbers.proofs.Tests.{none, more, found, done}
-use Rattle.plan.specs.Plan.{start, many}
-use Rattle.floor.specs.Refusal.{kind_ok, every_record}
+use Rattle.floor.specs.Refusal.{every_record}
 use Rattle.floor.proofs.Filed.{run, kind_read, last_kind}
 use borrow.Author.Rules.{rules}
 use Rattle.floor.proofs.refusal.every_record.Goals as goal
@@ -30,11 +26,11 @@ returns-then-not-kind_ok c = sym (found false _ _ _ (omega arith)
 pub loop-k-preserved : goal.loop-k-preserved
 unfolding every_record
 loop-k-preserved c = (
-      search rules,
-      more false _ _ c.loop-k.invariant.1
-          (sym (kind_read c.requires _ _ c.start_of.ensures.0 c.count_of.ensures.0 c.kind_ok.ensures)
-          ∙ c.if-not-kind_ok.false),
-    )
+  search rules,
+  more false _ _ c.loop-k.invariant.1
+      (sym (kind_read c.requires _ _ c.start_of.ensures.0 c.count_of.ensures.0 c.kind_ok.ensures)
+      ∙ c.if-not-kind_ok.false),
+)
 
 pub offsets_ok-requires : goal.offsets_ok-requires
 unfolding every_record

@@ -1,13 +1,10 @@
 -- The loop stops at the first record of the kind that fails the check.
 -- Assumes nothing.
 use Prim.Native.Nat.{◌≤◌, ◌-◌, ◌+◌}
-use mathlib.Core.Bool.{true, false}
-use mathlib.Core.Path.{◌≡◌, sym, ◌∙◌}
-use borrow.Author.Rules.{rules}
-use borrow.Author.Tests.{not-true, not-false}
+use mathlib.Core.Bool.{true}
+use mathlib.Core.Path.{◌≡◌}
 use Rattle.numbers.specs.Tests.{all}
-use Rattle.numbers.proofs.Tests.{none, more, found, done}
-use Rattle.floor.specs.Refusal.{record_ok, kind_ok}
+use Rattle.floor.specs.Refusal.{record_ok}
 use Rattle.floor.proofs.refusal.kind_ok.Given as goal
 
 abbrev pub invariant-loop-i : goal.invariant-loop-i

@@ -1,6 +1,5 @@
 -- The arm of each check calls that check's own test.
 -- Assumes nothing.
-use borrow.Author.Rules.{rules}
 use Rattle.floor.proofs.refusal.record_ok.Goals as goal
 
 pub returns-in-Listed : goal.returns-in-Listed

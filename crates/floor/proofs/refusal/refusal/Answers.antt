@@ -5,7 +5,6 @@ use Rattle.floor.specs.Refusal.{refusal, floor_checks, values_refusal}
 use Rattle.floor.proofs.Filed.{first_in, complete}
 use mathlib.Core.Bool.{not}
 use mathlib.Core.Path.{ap}
-use borrow.Author.Rules.{rules}
 use Rattle.floor.proofs.refusal.refusal.Goals as goal
 
 pub returns-then-not-length_ok : goal.returns-then-not-length_ok

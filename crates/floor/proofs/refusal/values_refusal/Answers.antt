@@ -3,7 +3,6 @@
 use Rattle.numbers.proofs.Chains.{tries}
 use Rattle.floor.specs.Refusal.{values_refusal, value_checks}
 use Rattle.floor.proofs.Filed.{lined}
-use borrow.Author.Rules.{rules}
 use Rattle.floor.proofs.refusal.values_refusal.Goals as goal
 
 pub returns-then-not-every_record : goal.returns-then-not-every_record

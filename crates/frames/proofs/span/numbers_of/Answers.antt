@@ -3,7 +3,6 @@
 use Prim.Native.Nat.{◌*◌}
 use mathlib.Core.Path.{refl, ◌∙◌}
 use native.Mathlib.Omega.{arith}
-use borrow.Author.Rules.{rules}
 use Rattle.frames.proofs.Records.{part_of}
 use Rattle.frames.proofs.span.numbers_of.Goals as goal
 

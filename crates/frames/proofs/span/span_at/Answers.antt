@@ -1,11 +1,7 @@
 -- The place that is found is the record's, what is read there is its line's view, and what is worked out of it is the span (Records).
 -- Assumes nothing.
-use mathlib.Core.Path.{◌≡◌, refl, sym}
-use borrow.Author.Rules.{rules}
-use Rattle.plan.specs.Plan.{column, beam_depth}
+use mathlib.Core.Path.{refl, sym}
 use Rattle.lines.proofs.Slabs.{sized_of}
-use Rattle.spans.specs.declared.view.LineView.{LineView}
-use Rattle.spans.specs.Views.{line_view}
 use Rattle.spans.proofs.AtHand.{column_is, line_is}
 use Rattle.frames.proofs.Records.{numbered, roomy, sides, span_is}
 use Rattle.frames.proofs.span.span_at.Goals as goal
@@ -32,17 +28,17 @@ pub column_strip_width-requires : goal.column_strip_width-requires
 column_strip_width-requires c =
     let e = c.requires.standing.shared in
     sides _ _ _ _ c.requires c.place_of-p.ensures (line_is _ e _ _ c.across-over.ensures c.along.ensures c.outer_line-outer.ensures c.below-low.ensures c.span-high.ensures
-        (sym (column_is _ e c.place_of-p.result.way)) c.pick-column.ensures c.beam_width.ensures refl)
+    (sym (column_is _ e c.place_of-p.result.way)) c.pick-column.ensures c.beam_width.ensures refl)
 
 pub frame_width-requires : goal.frame_width-requires
 frame_width-requires c =
     let e = c.requires.standing.shared in
     sides _ _ _ _ c.requires c.place_of-p.ensures (line_is _ e _ _ c.across-over.ensures c.along.ensures c.outer_line-outer.ensures c.below-low.ensures c.span-high.ensures
-        (sym (column_is _ e c.place_of-p.result.way)) c.pick-column.ensures c.beam_width.ensures refl)
+    (sym (column_is _ e c.place_of-p.result.way)) c.pick-column.ensures c.beam_width.ensures refl)
 
 pub returns : goal.returns
 returns c =
     let e = c.requires.standing.shared in
     span_is _ _ _ _ c.requires c.place_of-p.ensures (line_is _ e _ _ c.across-over.ensures c.along.ensures c.outer_line-outer.ensures c.below-low.ensures c.span-high.ensures
-        (sym (column_is _ e c.place_of-p.result.way)) c.pick-column.ensures c.beam_width.ensures refl) c.span-l1.ensures c.numbers_of.ensures
+    (sym (column_is _ e c.place_of-p.result.way)) c.pick-column.ensures c.beam_width.ensures refl) c.span-l1.ensures c.numbers_of.ensures
     c.column_strip_width.ensures.0 c.frame_width.ensures.0

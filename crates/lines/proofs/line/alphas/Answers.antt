@@ -1,7 +1,6 @@
 -- A row for each direction, of all its lines.
 -- Assumes nothing.
 use mathlib.Core.Path.{refl}
-use borrow.Author.Rules.{rules}
 use Rattle.plan.specs.declared.ways.Way.TheVariants.{X, Y}
 use Rattle.lines.proofs.Slabs.{bays_of_lem, lines_of}
 use Rattle.lines.proofs.Filled.{all_rows}

@@ -1,6 +1,5 @@
 -- By cases of the line: line 0 has no span on its low side.
 -- Assumes nothing.
-use borrow.Author.Rules.{rules}
 use borrow.Author.Tests.{eq-eqb, ne_eqb}
 use Rattle.lines.specs.Lines.{below}
 use Rattle.lines.proofs.line.below.Goals as goal

@@ -1,14 +1,11 @@
 -- The loop's invariant: α of the lines passed is stored, and the other places are as they were.
 -- Assumes nothing.
 use Prim.Native.Nat.{◌+◌, ◌-◌, ◌≤◌}
-use mathlib.Core.Logic.{◌⊎◌, inl, inr}
-use mathlib.Core.Path.{◌≡◌, refl, ◌∙◌}
-use native.Mathlib.Omega.{arith}
-use lib.ListN.{length, length-set}
-use borrow.Author.Rules.{rules}
+use mathlib.Core.Logic.{◌⊎◌}
+use mathlib.Core.Path.{◌≡◌}
+use lib.ListN.{length}
 use Rattle.lines.specs.Lines.{line_alpha}
-use Rattle.lines.proofs.Slabs.{line_index, line_before}
-use Rattle.lines.proofs.Filled.{Filled, one_more, Untouched, untouched, same_else, filled}
+use Rattle.lines.proofs.Filled.{Filled, Untouched}
 use Rattle.lines.proofs.line.fill_along.Given as goal
 
 abbrev pub invariant-loop-l : goal.invariant-loop-l

@@ -1,6 +1,5 @@
 -- The rows of the first panel's lines, filled on.
 -- Assumes nothing.
-use borrow.Author.Rules.{rules}
 use Rattle.plan.specs.declared.ways.Way.TheVariants.{X, Y}
 use Rattle.lines.proofs.Slabs.{bays_of_lem, lines_of, some_lines}
 use Rattle.lines.proofs.Filled.{both_alphas, joined}

@@ -1,6 +1,5 @@
 -- A row for each direction.
 -- Assumes nothing.
-use borrow.Author.Rules.{rules}
 use Rattle.lines.proofs.Filled.{both_spans}
 use Rattle.lines.proofs.line.spans.Goals as goal
 

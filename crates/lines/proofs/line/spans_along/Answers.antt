@@ -1,13 +1,12 @@
 -- The loop's invariant: the spans passed are stored.
 -- Assumes nothing.
-use Prim.Native.Nat.{◌-◌, ◌≤◌, zero-le}
-use mathlib.Core.Path.{◌≡◌, refl, ◌∙◌}
+use Prim.Native.Nat.{zero-le}
+use mathlib.Core.Path.{refl, ◌∙◌}
 use native.Mathlib.Nat.{not-suc-le-zero}
 use native.Mathlib.Omega.{arith}
-use lib.ListN.{length, length-set}
+use lib.ListN.{length-set}
 use borrow.Author.Rules.{rules}
-use Rattle.plan.specs.Plan.{span}
-use Rattle.lines.proofs.Filled.{Filled, one_more}
+use Rattle.lines.proofs.Filled.{one_more}
 use Rattle.lines.proofs.line.spans_along.Goals as goal
 
 pub loop-k-init : goal.loop-k-init

@@ -1,13 +1,10 @@
 -- The loop's invariant: the spans passed are stored.
 -- Assumes nothing.
-use Prim.Native.Nat.{◌-◌, ◌≤◌, zero-le}
-use mathlib.Core.Path.{◌≡◌, refl, ◌∙◌}
-use native.Mathlib.Nat.{not-suc-le-zero}
-use native.Mathlib.Omega.{arith}
-use lib.ListN.{length, length-set}
-use borrow.Author.Rules.{rules}
+use Prim.Native.Nat.{◌-◌, ◌≤◌}
+use mathlib.Core.Path.{◌≡◌}
+use lib.ListN.{length}
 use Rattle.plan.specs.Plan.{span}
-use Rattle.lines.proofs.Filled.{Filled, one_more}
+use Rattle.lines.proofs.Filled.{Filled}
 use Rattle.lines.proofs.line.spans_along.Given as goal
 
 abbrev pub invariant-loop-k : goal.invariant-loop-k

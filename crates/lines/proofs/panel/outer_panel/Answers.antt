@@ -1,6 +1,5 @@
 -- By cases of the first test.
 -- Assumes nothing.
-use borrow.Author.Rules.{rules}
 use Rattle.lines.proofs.panel.outer_panel.Goals as goal
 
 pub returns-then-touches : goal.returns-then-touches

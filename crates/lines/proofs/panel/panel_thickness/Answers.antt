@@ -1,6 +1,5 @@
 -- The rules' least thickness of the panel's view.
 -- Assumes nothing.
-use borrow.Author.Rules.{rules}
 use Rattle.lines.proofs.Filled.{asked, least_is}
 use Rattle.lines.proofs.panel.panel_thickness.Goals as goal
 

@@ -1,7 +1,6 @@
 -- The clear spans and α at hand are the panel's own; each callee's equation in turn.
 -- Assumes nothing.
 use mathlib.Core.Path.{refl}
-use borrow.Author.Rules.{rules}
 use Rattle.lines.proofs.Slabs.{panel_few}
 use Rattle.lines.proofs.Filled.{pair_in, clearing_x, clearing_y, view_is}
 use Rattle.lines.proofs.panel.panel_view.Goals as goal

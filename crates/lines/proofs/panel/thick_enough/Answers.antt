@@ -1,6 +1,5 @@
 -- The rules' inequality, at the slab's own thickness, of the panel's view.
 -- Assumes nothing.
-use borrow.Author.Rules.{rules}
 use Rattle.lines.proofs.Filled.{asked, enough_is, thick_in}
 use Rattle.lines.proofs.panel.thick_enough.Goals as goal
 

@@ -1,6 +1,5 @@
 -- By cases of the first test.
 -- Assumes nothing.
-use borrow.Author.Rules.{rules}
 use Rattle.lines.proofs.panel.touches.Goals as goal
 
 pub returns-then-outer_line : goal.returns-then-outer_line

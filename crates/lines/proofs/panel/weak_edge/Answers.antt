@@ -1,6 +1,5 @@
 -- By cases of the first two tests.
 -- Assumes nothing.
-use borrow.Author.Rules.{rules}
 use Rattle.lines.proofs.panel.weak_edge.Goals as goal
 
 pub returns-then-weak_beside : goal.returns-then-weak_beside

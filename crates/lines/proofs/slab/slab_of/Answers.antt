@@ -1,6 +1,5 @@
 -- Each callee's equation in turn; an accepted floor's layout is allowed (Fair).
 -- Assumes nothing.
-use borrow.Author.Rules.{rules}
 use Rattle.lines.specs.Slabs.{slab_of}
 use Rattle.floor.proofs.Fair.{laid_out}
 use Rattle.lines.proofs.slab.slab_of.Goals as goal

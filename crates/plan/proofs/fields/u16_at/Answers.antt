@@ -1,7 +1,6 @@
 -- Two bytes, the lower first: with one test for both, and byte by byte at the end.
 -- Assumes nothing.
 use Rattle.plan.specs.Fields.{le16}
-use borrow.Author.Rules.{rules}
 use Rattle.plan.proofs.fields.u16_at.Goals as goal
 
 pub returns-then-i-f : goal.returns-then-i-f

@@ -1,7 +1,6 @@
 -- Four bytes, the lowest first: with one test for all, and byte by byte near the end.
 -- Assumes nothing.
 use Rattle.plan.specs.Fields.{le32}
-use borrow.Author.Rules.{rules}
 use Rattle.plan.proofs.fields.u32_at.Goals as goal
 
 pub returns-then-i-f : goal.returns-then-i-f

@@ -1,6 +1,5 @@
 -- Each of the two, with its bound.
 -- Assumes nothing.
-use borrow.Author.Rules.{rules}
 use Rattle.plan.proofs.AtHand.{sized}
 use Rattle.plan.proofs.read.bays_of.Goals as goal
 

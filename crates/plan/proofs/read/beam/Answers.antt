@@ -1,7 +1,6 @@
 -- The lines of a direction start where the table by kind says (AtHand).
 -- Assumes nothing.
 use native.Mathlib.Omega.{arith}
-use borrow.Author.Rules.{rules}
 use Rattle.plan.proofs.AtHand.{beam_read, beam_few, beam_listed}
 use Rattle.plan.proofs.read.beam.Goals as goal
 

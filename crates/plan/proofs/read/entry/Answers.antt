@@ -1,6 +1,5 @@
 -- The record is one of the n, or there are not so many.
 -- Assumes nothing.
-use borrow.Author.Rules.{rules}
 use borrow.Author.Tests.{lt-ltb, le-ltb}
 use Rattle.plan.proofs.read.entry.Goals as goal
 

@@ -2,8 +2,6 @@
 -- Assumes nothing.
 use Prim.Native.Nat.{ℕ, ◌+◌, ◌*◌, ◌≤◌}
 use native.Mathlib.Omega.{arith}
-use borrow.Author.Rules.{rules}
-use borrow.Author.Tests.{leb-true, leb-false}
 use Rattle.numbers.proofs.Bounded.{◌⊕◌, ◌⊗◌, #, fits, upto}
 use Rattle.plan.proofs.AtHand.{kind_9, column_read, off_x, off_y}
 use Rattle.plan.proofs.read.offset.Goals as goal
@@ -55,6 +53,6 @@ returns-then-j-ny c = column_read c.requires _ _ _
 pub returns-else-i-nx : goal.returns-else-i-nx
 returns-else-i-nx c =
     elim c.else-i-nx.branch [
-      else-i-nx-via-then-i-nx+else-j-ny w ↦ off_y c.requires _ _ _ w.if-i-nx.true w.if-j-ny.false
+      | else-i-nx-via-then-i-nx+else-j-ny w ↦ off_y c.requires _ _ _ w.if-i-nx.true w.if-j-ny.false
       | else-i-nx-via-else-i-nx w ↦ off_x c.requires _ _ _ w.if-i-nx.false
     ]

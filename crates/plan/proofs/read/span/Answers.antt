@@ -1,6 +1,5 @@
 -- The spans of a direction start where the table by kind says (AtHand).
 -- Assumes nothing.
-use borrow.Author.Rules.{rules}
 use Rattle.plan.proofs.AtHand.{span_read, span_listed}
 use Rattle.plan.proofs.read.span.Goals as goal
 

@@ -5,7 +5,6 @@ use Rattle.numbers.proofs.Bounded.{fits}
 use Rattle.records.proofs.Places.{corners_most}
 use native.Mathlib.Omega.{arith}
 use Rattle.records.specs.Kinds.{count_of}
-use borrow.Author.Rules.{rules}
 use Rattle.records.proofs.kinds.count_of.Goals as goal
 
 pub overflow_mul-result : goal.overflow_mul-result

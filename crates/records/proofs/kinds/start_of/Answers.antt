@@ -5,7 +5,6 @@ use native.Mathlib.Omega.{arith}
 use native.Mathlib.Nat.{le_antisymm}
 use mathlib.Core.Path.{◌≡◌}
 use Rattle.records.specs.Kinds.{start_of, count_of}
-use borrow.Author.Rules.{rules}
 use Rattle.records.proofs.kinds.start_of.Goals as goal
 
 pub returns-in-0 : goal.returns-in-0

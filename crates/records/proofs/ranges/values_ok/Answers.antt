@@ -2,7 +2,6 @@
 -- Assumes nothing.
 use Rattle.numbers.proofs.Cases.{cases}
 use Rattle.records.specs.Ranges.{values_ok}
-use borrow.Author.Rules.{rules}
 use Rattle.records.proofs.ranges.values_ok.Goals as goal
 
 pub returns-in-1 : goal.returns-in-1

@@ -1,6 +1,5 @@
 -- By cases of the column strip at the end (Ends).
 -- Assumes nothing.
-use borrow.Author.Rules.{rules}
 use Rattle.spans.proofs.Ends.{even_end, part_end, inner_end}
 use Rattle.spans.proofs.record.end_strips.Goals as goal
 

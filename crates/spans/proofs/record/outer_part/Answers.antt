@@ -1,6 +1,5 @@
 -- Each callee's equation in turn, in the range of the beam across the end.
 -- Assumes nothing.
-use borrow.Author.Rules.{rules}
 use Rattle.spans.specs.Record.{outer_part}
 use Rattle.spans.proofs.record.outer_part.Goals as goal
 

@@ -1,6 +1,5 @@
 -- By cases of the ends: the low one is an outer end, the high one is, neither is.
 -- Assumes nothing.
-use borrow.Author.Rules.{rules}
 use Rattle.spans.specs.Record.{percents_of}
 use Rattle.spans.proofs.record.percents_of.Goals as goal
 

@@ -1,6 +1,5 @@
 -- Each callee's equation in turn; the sections have what a worked span keeps (Whole), and Mo fits 32 bits.
 -- Assumes nothing.
-use borrow.Author.Rules.{rules}
 use Rattle.numbers.proofs.Bounded.{fits}
 use Rattle.spans.specs.Record.{record_of}
 use Rattle.spans.proofs.Whole.{at_low, at_between, at_high}

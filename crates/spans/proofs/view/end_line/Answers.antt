@@ -1,6 +1,5 @@
 -- By cases of the end.
 -- Assumes nothing.
-use borrow.Author.Rules.{rules}
 use Rattle.spans.proofs.view.end_line.Goals as goal
 
 pub returns-in-High : goal.returns-in-High

@@ -1,9 +1,7 @@
 -- By cases of the span: the last has an outer end here.
 -- Assumes nothing.
-use mathlib.Core.Path.{◌≡◌, ◌∙◌}
+use mathlib.Core.Path.{◌∙◌}
 use borrow.Author.Tests.{eq-eqb, ne_eqb}
-use borrow.Author.Rules.{rules}
-use Rattle.plan.specs.Plan.{bays}
 use Rattle.spans.specs.Views.{high_end}
 use Rattle.spans.proofs.AtHand.{along_is}
 use Rattle.spans.proofs.view.high_end.Goals as goal

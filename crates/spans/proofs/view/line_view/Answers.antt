@@ -1,6 +1,5 @@
 -- Each callee's equation in turn; bays and columns are those of the slab at hand (AtHand).
 -- Assumes nothing.
-use borrow.Author.Rules.{rules}
 use Rattle.lines.proofs.Slabs.{sized_of}
 use Rattle.spans.proofs.AtHand.{line_is}
 use Rattle.spans.proofs.view.line_view.Goals as goal

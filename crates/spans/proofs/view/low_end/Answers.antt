@@ -1,7 +1,6 @@
 -- By cases of the span: the first has an outer end here.
 -- Assumes nothing.
 use borrow.Author.Tests.{eq-eqb, ne_eqb}
-use borrow.Author.Rules.{rules}
 use Rattle.spans.specs.Views.{low_end}
 use Rattle.spans.proofs.view.low_end.Goals as goal
 

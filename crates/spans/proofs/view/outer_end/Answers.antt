@@ -1,6 +1,5 @@
 -- Each callee's equation in turn, and the bays at hand are the floor's.
 -- Assumes nothing.
-use borrow.Author.Rules.{rules}
 use Rattle.spans.specs.Views.{outer_end}
 use Rattle.spans.proofs.view.outer_end.Goals as goal
 

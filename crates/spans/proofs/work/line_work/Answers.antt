@@ -2,7 +2,6 @@
 -- Assumes nothing.
 use mathlib.Core.Path.{◌≡◌}
 use Prim.Native.Nat.{ℕ}
-use borrow.Author.Rules.{rules}
 use Rattle.spans.specs.declared.view.LineView.{LineView}
 use Rattle.spans.specs.declared.work.LineWork.{LineWork}
 use Rattle.spans.specs.Works.{width_of, l2_of, line_work}

@@ -1,6 +1,5 @@
 -- Each callee's equation in turn, in the ranges that a workable span keeps (Worked).
 -- Assumes nothing.
-use borrow.Author.Rules.{rules}
 use Rattle.spans.proofs.Worked.{loaded, stiffened, proportioned, work_is}
 use Rattle.spans.proofs.work.span_work.Goals as goal
 

@@ -1,6 +1,5 @@
 -- Each part by its callee; the moment's two products fit by the query's ranges.
 -- Assumes nothing.
-use borrow.Author.Rules.{rules}
 use Prim.Native.Nat.{◌≤◌}
 use Rattle.numbers.proofs.Bounded.{◌⊗◌, #, fits}
 use Rattle.steel.specs.Steel.{limits_of}

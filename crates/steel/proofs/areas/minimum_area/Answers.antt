@@ -31,9 +31,9 @@ overflow_mul-fy c = fits (# _ ⊗ (grade_range c.requires).1) tt
 pub rounded_up-requires-2 : goal.rounded_up-requires-2
 unfolding minimum_area
 rounded_up-requires-2 c = let r = c.requires in let g = grade_range r in record {
-      positive = omega (arith, g.0);
-      room = omega (arith, g.1, # 756 ⊗ r.width.1 ⊗ r.thickness.1);
-    }
+  positive = omega (arith, g.0);
+  room = omega (arith, g.1, # 756 ⊗ r.width.1 ⊗ r.thickness.1);
+}
 
 pub returns : goal.returns
 unfolding minimum_area

@@ -5,7 +5,6 @@ use mathlib.Core.Path.{◌≡◌}
 use Rattle.steel.specs.declared.query.Query.{Query}
 use Rattle.steel.specs.Query.{InRange, depth_of}
 use native.Mathlib.Omega.{arith}
-use borrow.Author.Rules.{rules}
 use Rattle.numbers.proofs.Bounded.{◌⊗◌, #, fits}
 use Rattle.steel.specs.Steel.{strain_area}
 use Rattle.steel.proofs.Ranges.{k_most, grade_range, depth_range}

@@ -4,7 +4,6 @@ use Prim.Native.Nat.{ℕ, ◌-◌, max}
 use mathlib.Core.Bool.{Bool}
 use mathlib.Core.Path.{◌≡◌, sym, ap, ◌∙◌}
 use native.Mathlib.Omega.{arith}
-use borrow.Author.Rules.{rules}
 use Rattle.numbers.specs.Tests.{within}
 use Rattle.steel.specs.Query.{depth_listed}
 use Rattle.steel.proofs.query.depth_listed.Goals as goal

@@ -1,6 +1,5 @@
 -- By cases of d.
 -- Assumes nothing.
-use borrow.Author.Rules.{rules}
 use borrow.Author.Tests.{eq-eqb, ne_eqb}
 use Rattle.steel.specs.Query.{depth_of}
 use Rattle.steel.proofs.query.depth_of.Goals as goal

@@ -1,6 +1,5 @@
 -- Each callee's equation in turn.
 -- Assumes nothing.
-use borrow.Author.Rules.{rules}
 use Rattle.steel.specs.Query.{in_range}
 use Rattle.steel.proofs.query.in_range.Goals as goal
 

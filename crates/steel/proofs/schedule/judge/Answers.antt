@@ -1,7 +1,6 @@
 -- 16 and 15 (Scheduled), or the moments stand, there is room, and the rest is tried.
 -- Assumes nothing.
-use mathlib.Core.Path.{◌≡◌, sym, ◌∙◌}
-use native.Mathlib.Omega.{arith}
+use mathlib.Core.Path.{◌∙◌}
 use borrow.Author.Rules.{rules}
 use Rattle.lines.proofs.Slabs.{sized_of}
 use Rattle.tables.proofs.Numbered.{bayed, counted}

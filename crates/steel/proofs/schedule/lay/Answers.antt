@@ -1,18 +1,14 @@
 -- The first pass writes nothing and says whether all have bars; so the second cannot fail, and writes the schedule.
 -- Assumes nothing.
 use Prim.Native.Nat.{ℕ, ◌≤◌}
-use mathlib.Core.Bool.{true}
 use mathlib.Core.List.{List}
-use mathlib.Core.Path.{◌≡◌, sym, ap, subst, ◌∙◌}
+use mathlib.Core.Path.{sym, ap, subst, ◌∙◌}
 use native.Mathlib.Omega.{arith}
 use lib.ListN.{length}
-use borrow.Author.Rules.{rules}
-use borrow.Author.Tests.{not-true, not-false}
 use Rattle.numbers.proofs.Bounded.{◌⊗◌, #, upto, fits}
 use Rattle.tables.proofs.Numbered.{count_most}
-use Rattle.steel.specs.Schedule.{schedule_length, all_barred, scheduled}
+use Rattle.steel.specs.Schedule.{schedule_length, scheduled}
 use Rattle.steel.proofs.Scheduled.{no_bars, all_good, refused_is, scheduled_is}
-use mathlib.Core.Bool.{not}
 use Rattle.steel.proofs.schedule.lay.Goals as goal
 
 pub lay_all-requires : goal.lay_all-requires

@@ -1,25 +1,20 @@
 -- After k turns the first k spans have all their bars, and with `store` their records are written (span-next: one more). A span without ends the pass.
 -- Assumes nothing.
-use Prim.Native.Nat.{ℕ, ◌*◌, ◌-◌, ◌≤◌}
-use mathlib.Core.Bool.{true, false, cond}
+use Prim.Native.Nat.{ℕ, ◌*◌}
+use mathlib.Core.Bool.{false}
 use mathlib.Core.List.{List}
 use mathlib.Core.Path.{◌≡◌, refl, sym, ◌∙◌}
 use native.Mathlib.Omega.{arith}
 use borrow.Author.Rules.{rules}
-use borrow.Author.Tests.{not-true, not-false}
-use lib.ListN.{length}
-use Rattle.numbers.specs.Records.{written, written_from, every}
-use Rattle.numbers.specs.Tests.{all}
-use Rattle.numbers.proofs.Tests.{none, more, done}
+use Rattle.numbers.specs.Records.{written_from, every}
+use Rattle.numbers.proofs.Tests.{none, more}
 use Rattle.numbers.proofs.Written.{from_none}
 use Rattle.tables.specs.Places.{record_count}
 use Rattle.bars.specs.Entries.{number_bytes}
 use Rattle.frames.specs.Spans.{span_at}
 use Rattle.steel.specs.Strips.{span_numbers, materials_of, span_barred, strip_bytes}
-use Rattle.steel.specs.Schedule.{all_barred, schedule_bytes, scheduled}
+use Rattle.steel.specs.Schedule.{all_barred, scheduled}
 use Rattle.steel.proofs.Laid.{barred_span, ended_by, turn, untouched, span_next, at_record, in_frame}
-use mathlib.Core.Path.{ap}
-use mathlib.Core.Bool.{not}
 use Rattle.steel.proofs.schedule.lay_all.Goals as goal
 
 pub loop-k-init : goal.loop-k-init

@@ -1,7 +1,6 @@
 -- Refused, or the floor is accepted and the rest is tried.
 -- Assumes nothing.
 use mathlib.Core.Path.{◌∙◌}
-use borrow.Author.Rules.{rules}
 use Rattle.steel.proofs.Scheduled.{floor_refuses, refused_is}
 use Rattle.steel.proofs.schedule.schedule.Goals as goal
 

@@ -1,7 +1,6 @@
 -- Written, or not.
 -- Assumes nothing.
 use mathlib.Core.Path.{◌∙◌}
-use borrow.Author.Rules.{rules}
 use Rattle.steel.proofs.schedule.write_if.Goals as goal
 
 pub returns-then-store : goal.returns-then-store

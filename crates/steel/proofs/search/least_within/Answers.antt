@@ -1,13 +1,13 @@
 -- The loop keeps: no area within the limits below `area` carries the moment.
 -- Assumes nothing.
-use Prim.Native.Nat.{ℕ, suc, ◌-◌, ◌*◌, ◌≤◌, ◌<◌}
+use Prim.Native.Nat.{ℕ, ◌*◌, ◌≤◌, ◌<◌}
 use mathlib.Core.Path.{◌∙◌}
 use native.Mathlib.Nat.{le_trans, lt_of_le_of_lt, mul-pos}
 use native.Mathlib.Omega.{arith}
 use lib.Dec.{lit<}
 use borrow.Author.Rules.{rules}
 use Rattle.numbers.proofs.Bounded.{◌⊕◌, ◌⊗◌, ◌⊖◌, #, upto, fits}
-use Rattle.steel.proofs.Climb.{Passed, goes_on, step_most, on, met, none}
+use Rattle.steel.proofs.Climb.{goes_on, step_most, on, met, none}
 use Rattle.steel.proofs.Within.{left}
 use Rattle.steel.specs.declared.search.Limits.{Limits}
 use Rattle.steel.specs.Asked.{Searchable}
@@ -53,9 +53,9 @@ overflow_mul-fy-in-loop-area c = let s = c.requires in fits (# _ ⊗ s.grade.1 �
 
 pub rounded_up-area-requires : goal.rounded_up-area-requires
 rounded_up-area-requires c = let s = c.requires in record {
-      positive = mul-pos (omega arith) (omega (arith, tension _ c.requires c.loop-area-test.true));
-      room = lt_of_le_of_lt ((s.heaviest ⊖ _) ⊕ # _ ⊗ s.grade.1 ⊗ (s.room ⊖ _)) (lit< tt);
-    }
+  positive = mul-pos (omega arith) (omega (arith, tension _ c.requires c.loop-area-test.true));
+  room = lt_of_le_of_lt ((s.heaviest ⊖ _) ⊕ # _ ⊗ s.grade.1 ⊗ (s.room ⊖ _)) (lit< tt);
+}
 
 pub overflow_add-area : goal.overflow_add-area
 overflow_add-area c = let s = c.requires in let h = tension _ c.requires c.loop-area-test.true in

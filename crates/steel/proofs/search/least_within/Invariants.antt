@@ -1,14 +1,7 @@
 -- The loop keeps: no area within the limits below `area` carries the moment.
 -- Assumes nothing.
-use Prim.Native.Nat.{suc, ◌-◌, ◌*◌, ◌≤◌, ◌<◌}
-use mathlib.Core.Path.{◌∙◌}
-use native.Mathlib.Nat.{le_trans, lt_of_le_of_lt, mul-pos}
-use native.Mathlib.Omega.{arith}
-use lib.Dec.{lit<}
-use borrow.Author.Rules.{rules}
-use Rattle.numbers.proofs.Bounded.{◌⊕◌, ◌⊗◌, ◌⊖◌, #, upto, fits}
-use Rattle.steel.proofs.Climb.{Passed, goes_on, step_most, on, met, none}
-use Rattle.steel.proofs.Within.{left}
+use Prim.Native.Nat.{suc, ◌-◌, ◌≤◌}
+use Rattle.steel.proofs.Climb.{Passed}
 use Rattle.steel.proofs.search.least_within.Given as goal
 
 abbrev pub invariant-loop-area : goal.invariant-loop-area

@@ -1,6 +1,5 @@
 -- Each callee's equation in turn; a strip is no wider than its frame.
 -- Assumes nothing.
-use borrow.Author.Rules.{rules}
 use Rattle.numbers.proofs.Bounded.{fits}
 use Rattle.steel.specs.Strips.{strip_query, entry_of}
 use Rattle.steel.proofs.Reinforced.{width_most}

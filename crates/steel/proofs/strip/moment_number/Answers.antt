@@ -1,7 +1,6 @@
 -- By cases of the strip: a section's five numbers start one after Mo.
 -- Assumes nothing.
 use native.Mathlib.Omega.{arith}
-use borrow.Author.Rules.{rules}
 use borrow.Author.Tests.{eq-eqb, ne_eqb}
 use Rattle.steel.specs.Strips.{moment_number}
 use Rattle.steel.proofs.strip.moment_number.Goals as goal

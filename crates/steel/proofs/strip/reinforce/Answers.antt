@@ -1,7 +1,6 @@
 -- By cases (Reinforced): no width, no area, or the bars of the area found.
 -- Assumes nothing.
 use mathlib.Core.Path.{◌∙◌}
-use borrow.Author.Rules.{rules}
 use Rattle.steel.proofs.Reinforced.{no_width, no_area, laid_is, reinforced}
 use Rattle.steel.proofs.strip.reinforce.Goals as goal
 

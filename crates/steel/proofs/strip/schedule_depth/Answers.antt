@@ -1,7 +1,6 @@
 -- By cases of the direction; what is left of t is the same where t is below 26.
 -- Assumes nothing.
 use native.Mathlib.Omega.{arith}
-use borrow.Author.Rules.{rules}
 use Rattle.steel.specs.Strips.{schedule_depth}
 use Rattle.steel.proofs.strip.schedule_depth.Goals as goal
 

@@ -1,7 +1,6 @@
 -- By cases of the strip.
 -- Assumes nothing.
 use mathlib.Core.Path.{◌∙◌}
-use borrow.Author.Rules.{rules}
 use borrow.Author.Tests.{eq-eqb, ne_eqb}
 use Rattle.steel.specs.Strips.{strip_width}
 use Rattle.steel.proofs.strip.strip_width.Goals as goal

@@ -1,6 +1,5 @@
 -- The definition's two cases, in the range that the line's record gives.
 -- Assumes nothing.
-use borrow.Author.Rules.{rules}
 use Rattle.numbers.proofs.Bounded.{ranged}
 use Rattle.stiffness.specs.Lines.{transverse_span}
 use Rattle.stiffness.proofs.Widths.{transverse_in}

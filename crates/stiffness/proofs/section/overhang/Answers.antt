@@ -1,7 +1,6 @@
 -- By cases of the line.
 -- Assumes nothing.
 use Prim.Native.Nat.{◌*◌, ◌≤◌}
-use borrow.Author.Rules.{rules}
 use Rattle.numbers.proofs.Bounded.{exactly}
 use Rattle.stiffness.specs.Sections.{flange}
 use Rattle.stiffness.proofs.Stiffness.{overhang_in}

@@ -2,7 +2,6 @@
 -- Assumes nothing.
 use Prim.Native.Nat.{◌≤◌}
 use native.Mathlib.Omega.{arith}
-use borrow.Author.Rules.{rules}
 use Rattle.numbers.proofs.Bounded.{◌⊗◌, ◌⊖◌, fits, fitting, exactly}
 use Rattle.stiffness.proofs.Stiffness.{wing, product_most, apart_most}
 use Rattle.stiffness.proofs.section.Section.apart.Goals as goal

@@ -2,7 +2,6 @@
 -- Assumes nothing.
 use Prim.Native.Nat.{◌≤◌}
 use native.Mathlib.Omega.{arith}
-use borrow.Author.Rules.{rules}
 use Rattle.numbers.proofs.Bounded.{◌⊗◌, ◌⊖◌, #, cubed, fits}
 use Rattle.stiffness.specs.Sections.{torsion}
 use Rattle.stiffness.proofs.section.Section.torsion.Goals as goal

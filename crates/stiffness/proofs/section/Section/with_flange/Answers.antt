@@ -1,7 +1,6 @@
 -- The definition's sum, term by term; that it is bounded by the slab's own is a law of the definition.
 -- Assumes nothing.
 use Prim.Native.Nat.{◌*◌, ◌≤◌}
-use borrow.Author.Rules.{rules}
 use Rattle.numbers.proofs.Bounded.{◌⊕◌, fits, exactly}
 use Rattle.stiffness.specs.Sections.{cube, flanged_inertia}
 use Rattle.stiffness.proofs.Stiffness.{wing, areas_pos, term_most, flanged_most}
@@ -18,10 +17,10 @@ inertia-requires-2 c = wing c.requires
 pub last_term-requires : goal.last_term-requires
 unfolding flanged_inertia
 last_term-requires c = record {
-      most = c.apart.ensures.1;
-      there = areas_pos c.requires _ c.area.ensures.0;
-      areas_most = c.area.ensures.1 ⊕ c.area-2.ensures.1;
-    }
+  most = c.apart.ensures.1;
+  there = areas_pos c.requires _ c.area.ensures.0;
+  areas_most = c.area.ensures.1 ⊕ c.area-2.ensures.1;
+}
 
 pub overflow_add-result-2 : goal.overflow_add-result-2
 unfolding flanged_inertia
