@@ -1,3 +1,4 @@
 pub mod Sheets
 pub mod Long
 pub mod Kept
+pub mod Reading

@@ -2,7 +2,7 @@
 -- line and the records are the sheet's text (whole), and nothing else keeps the promise (began_one).
 -- Assumes nothing.
 use Prim.Native.Nat.{ℕ, ◌+◌, ◌≤◌, zero-le}
-use mathlib.Core.List.{List, [], ◌∷◌}
+use mathlib.Core.List.{List, [], ◌∷◌, ◌++◌}
 use mathlib.Core.Path.{◌≡◌, refl, sym, ap, ◌∙◌}
 use native.Mathlib.Decide.{dec_le}
 use native.Mathlib.Omega.{arith}
@@ -12,6 +12,10 @@ use Rattle.numbers.proofs.Tests.{says_eq, by_test, by_says}
 use Rattle.sheets.specs.Text.{line, lines}
 use Rattle.sheets.specs.Wrote.{Wrote}
 use Rattle.sheets.proofs.Writing.{wrote_as, wrote_one}
+use Rattle.sheets.proofs.Growing.{grew_as}
+use Rattle.std.specs.declared.option.Option.{Option}
+use Rattle.std.specs.Io.KnownBytes.{Appends}
+use Rattle.std.proofs.KnownBytes.{Appends-trans}
 use Rattle.answers.specs.declared.Answer.{Answer}
 use Rattle.limits.specs.Limits.{verdict}
 use Rattle.tables.specs.Width.{record_width}
@@ -80,6 +84,12 @@ module _ {f : List ℕ} {l : Lent} {out : List ℕ} {r : Start} {l' : Lent} {out
   pub whole : {x y : ℕ} → x ≡ length (first_line f l) → y ≡ length (lines record_width r.records l'.table) → x + y ≡ length (sheet_text f l)
   unfolding sheet_text
   whole e g = omega (arith, e, g, ap length rest, length-append (first_line f l) (record_lines f l))
+
+  -- and what a writer holds after both
+  pub whole_text : (x y z : Option (List ℕ)) → Appends x y (first_line f l) → Appends y z (lines record_width r.records l'.table) → Appends x z (sheet_text f l)
+  unfolding sheet_text
+  whole_text x y z h q =
+      grew_as x z (ap (λ (t : List ℕ). first_line f l ++ t) rest) (Appends-trans x y z (first_line f l) (lines record_width r.records l'.table) h q)
 
 -- no second answer, slice or buffer
 pub began_one : {f out out' v' : List ℕ} {l l' u' : Lent} {r s : Start} → Began f l out r l' out' → Began f l out s u' v' →

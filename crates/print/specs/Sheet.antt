@@ -1,7 +1,7 @@
 -- "It reads a floor from standard input and prints refusal number, a space, verdict; at verdict 0 then one line per record, sixteen numbers,
 -- spaces between."
 -- Assumes nothing.
-use Rattle.std.specs.Prelude.{ℕ, ◌*◌, ◌≤◌, cond, List, [], ◌∷◌, ◌++◌, ◌≡◌, eqb, length}
+use Rattle.std.specs.Prelude.{ℕ, ◌*◌, ◌≤◌, cond, List, [], ◌∷◌, ◌++◌, ◌≡◌, eqb, length, replicate}
 use Rattle.sheets.specs.Text.{line, lines}
 use Rattle.sheets.specs.Wrote.{Wrote}
 use Rattle.answers.specs.declared.Answer.{Answer}
@@ -9,7 +9,7 @@ use Rattle.limits.specs.Limits.{verdict}
 use Rattle.tables.specs.Width.{record_width}
 use Rattle.tables.specs.Places.{record_count}
 use Rattle.supports.specs.Governing.{support_width}
-use Rattle.moments.specs.Lent.{Lent}
+use Rattle.moments.specs.Lent.{Lent, lent}
 use Rattle.moments.specs.Tables.{fresh}
 use Rattle.moments.specs.Opening.{open_refusal, Opened}
 use Rattle.answers.specs.Answers.{answered}
@@ -39,3 +39,7 @@ pub record Began (f : List ℕ) (l : Lent) (out : List ℕ) (r : Start) (l' : Le
 pub record Space (t g : List ℕ) : Type 0 where
   pub numbers : length t ≡ 312 * record_width
   pub supports : length g ≡ 338 * support_width
+
+-- that room, as the program lends it
+unfoldable pub blank : Lent
+blank = lent (replicate (312 * record_width) 0) (replicate (338 * support_width) 0)

@@ -1,8 +1,9 @@
-// A floor file from standard input: as many of its bytes as decide what is printed of it. No contract can say what a read put: `stands_more`
-// has what follows of the input's bytes where they lie as they came.
-ghost use Rattle.std.specs.Prelude.{◌≡◌, ◌+◌, ◌≤◌, length};
+// A floor file from a reader: as many of its bytes as decide what is printed of it. Of a reader whose bytes are known, they stand for all of
+// these. No contract can say what standard input gives, which is no such reader.
+ghost use Rattle.std.specs.Prelude.{◌≡◌, ◌+◌, ◌≤◌, ◌<◌, false, length, take, drop, IfSome};
+ghost use Rattle.std.specs.Io.KnownBytes.{Consumes, IsAtEnd};
 ghost use Rattle.io.specs.Counts.{IsPrefixLen};
-ghost use Rattle.print.specs.Input.{stand_in, got_of, after_read, ReadOn, Room};
+ghost use Rattle.print.specs.Input.{stand_in, Stands, got_of, after_read, ReadOn, Room};
 
 use std::io;
 use std::io::Read;
@@ -43,7 +44,9 @@ fn counted(answer: io::Result<usize>, bytes: &[u8]) -> Got
 // Reads once, to the bytes from `at` on.
 fn read_on<R: Read>(input: &mut R, bytes: &mut [u8], at: usize) -> Got
     requires { at ≤ length bytes.old }
-    ensures { ReadOn bytes.old at bytes.new result.bytes }
+    ensures put { ReadOn bytes.old at bytes.new result.bytes }
+    ensures read { Consumes (R.remaining input.old) (R.remaining input.new) (take result.bytes (drop at bytes.new)) }
+    ensures end { at < length bytes.old → result.failed ≡ false → result.bytes ≡ 0 → IsAtEnd (R.remaining input.new) }
 {
     let answer = input.read(&mut bytes[at..]);
     counted(answer, &bytes[at..])
@@ -71,10 +74,11 @@ fn after(n: usize, got: Got) -> Input
     }
 }
 
-// Reads standard input to its end, each time behind the bytes that stand for what came before.
+// Reads the input to its end, each time behind the bytes that stand for what came before.
 pub fn read_floor<R: Read>(input: &mut R, bytes: &mut [u8]) -> Input
     requires { Room bytes.old }
-    ensures { IsPrefixLen result.bytes bytes.new }
+    ensures within { IsPrefixLen result.bytes bytes.new }
+    ensures stands { result.failed ≡ false → IfSome (R.remaining input.old) (λ f. Stands f bytes.new result.bytes) }
 {
     let mut n: usize = 0;
     let mut turns = u64::MAX;

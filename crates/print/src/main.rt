@@ -3,16 +3,18 @@
 
 mod input;
 
+ghost use Rattle.std.specs.Prelude.{◌≡◌, true, IfSome};
+ghost use Rattle.std.specs.Io.KnownBytes.{Appends};
 ghost use Rattle.sheets.specs.Wrote.{Line};
 ghost use Rattle.sheets.specs.Pieces.{Printed};
 ghost use Rattle.moments.specs.Lent.{lent};
-ghost use Rattle.print.specs.Sheet.{sheet_text, Began, Space};
+ghost use Rattle.print.specs.Sheet.{sheet_text, blank, Began, Space};
 
 use input::read_floor;
 use plan::read::bays_of;
 use sheets::pair;
 use sheets::pieces::{Sent, send, write_rows};
-use std::io::Write;
+use std::io::{Read, Write};
 use std::process::ExitCode;
 use supports::SUPPORT;
 use tables::places::record_count;
@@ -53,7 +55,8 @@ fn begin(floor: &[u8], table: &mut [u32], governing: &mut [u32], out: &mut [u8])
 // Prints a floor. Where a write fails, nothing is written after it.
 fn sheet<W: Write>(to: &mut W, floor: &[u8], table: &mut [u32], governing: &mut [u32]) -> Sent
     requires { Space table.old governing.old }
-    ensures { Printed (sheet_text floor.now (lent table.old governing.old)) result }
+    ensures printed { Printed (sheet_text floor.now (lent table.old governing.old)) result }
+    ensures taken { result.whole ≡ true → Appends (W.contents to.old) (W.contents to.new) (sheet_text floor.now (lent table.old governing.old)) }
 {
     let mut out = [0u8; 22];
     let start = begin(floor, table, governing, &mut out);
@@ -71,27 +74,53 @@ fn sheet<W: Write>(to: &mut W, floor: &[u8], table: &mut [u32], governing: &mut 
 }
 
 // Prints a floor, and answers whether all of its sheet was taken.
-fn show<W: Write>(to: &mut W, floor: &[u8]) -> bool {
+fn show<W: Write>(to: &mut W, floor: &[u8]) -> bool
+    ensures { result ≡ true → Appends (W.contents to.old) (W.contents to.new) (sheet_text floor.now blank) }
+{
     let mut table = [0u32; LARGEST];
     let mut governing = [0u32; SUPPORTS];
     let sent = sheet(to, floor, &mut table, &mut governing);
     sent.whole
 }
 
+// What came of the floor that was to be printed.
+#[derive(Clone, Copy)]
+enum Outcome {
+    Printed,
+    NotRead,
+    NotWritten,
+}
+
+// Prints the floor that the input holds.
+fn print<R: Read, W: Write>(input: &mut R, to: &mut W) -> Outcome
+    ensures { result ≡ Outcome.Printed → IfSome (R.remaining input.old) (λ f. Appends (W.contents to.old) (W.contents to.new) (sheet_text f blank)) }
+{
+    let mut bytes = [0u8; 65536];
+    let input = read_floor(input, &mut bytes);
+    if input.failed {
+        return Outcome::NotRead;
+    }
+    let n = input.bytes;
+    if show(to, &bytes[..n]) {
+        Outcome::Printed
+    } else {
+        Outcome::NotWritten
+    }
+}
+
 // Where one of these lines is said, the status is 1. Of a line that cannot be said there is no one to tell.
 fn main(rt: HostRuntime) -> ExitCode {
-    let mut bytes = [0u8; 65536];
-    let input = read_floor(&mut rt.stdin(), &mut bytes);
-    let n = input.bytes;
-    if input.failed {
-        let _ = eprintln!(rt; "print: standard input cannot be read, and no sheet is printed");
-        return ExitCode::FAILURE;
+    match print(&mut rt.stdin(), &mut rt.stdout()) {
+        Outcome::Printed => ExitCode::SUCCESS,
+        Outcome::NotRead => {
+            let _ = eprintln!(rt; "print: standard input cannot be read, and no sheet is printed");
+            ExitCode::FAILURE
+        }
+        Outcome::NotWritten => {
+            let _ = eprintln!(rt;
+                "print: standard output cannot be written, and the sheet is not whole"
+            );
+            ExitCode::FAILURE
+        }
     }
-    if !show(&mut rt.stdout(), &bytes[..n]) {
-        let _ = eprintln!(rt;
-            "print: standard output cannot be written, and the sheet is not whole"
-        );
-        return ExitCode::FAILURE;
-    }
-    ExitCode::SUCCESS
 }

@@ -1,0 +1,45 @@
+-- What stands for all that a reader gave so far.
+-- Assumes nothing.
+use Prim.Native.Nat.{ℕ, ◌+◌}
+use mathlib.Core.List.{List, [], ◌++◌, append-nil}
+use mathlib.Core.Path.{◌≡◌, sym, ap, subst, ◌∙◌}
+use lib.ListN.{take, drop}
+use Rattle.std.specs.declared.option.Option.{Option}
+use Rattle.std.specs.Prelude.{None, Some, IfSome}
+use Rattle.std.specs.Io.KnownBytes.{Appends, Consumes, IsAtEnd}
+use Rattle.std.proofs.KnownBytes.{Consumes-nil, Consumes-trans}
+use Rattle.sheets.proofs.Growing.{grew_as}
+use Rattle.print.specs.Input.{stand_in, Stands, ReadOn}
+use Rattle.print.specs.Sheet.{sheet_text, blank}
+use Rattle.print.proofs.Kept.{stands_none, stands_more, same_sheet}
+
+-- a reader gave bytes for which the first n of b stand
+pub record SoFar (known left : Option (List ℕ)) (b : List ℕ) (n : ℕ) : Type 0 where
+  pub given : List ℕ
+  pub gave : Consumes known left given
+  pub stand : Stands given b n
+
+pub nothing : (a : Option (List ℕ)) (b : List ℕ) → SoFar a a b 0
+nothing a b = record { given = []; gave = Consumes-nil a; stand = stands_none b }
+
+-- one read more
+pub one_more : (a left left' : Option (List ℕ)) (b b' : List ℕ) (n m n' : ℕ) → n' ≡ stand_in (n + m) → SoFar a left b n → ReadOn b n b' m → Consumes left left' (take m (drop n b'))
+    → SoFar a left' b' n'
+one_more a left left' b b' n m n' e s read gave = record {
+  given = s.given ++ take m (drop n b');
+  gave = Consumes-trans a left left' s.given (take m (drop n b')) s.gave gave;
+  stand = subst (Stands (s.given ++ take m (drop n b')) b') (sym e) (stands_more s.stand read);
+}
+
+-- of a reader that is at its end, all that it had
+pub all_of : (a left : Option (List ℕ)) (b : List ℕ) (n : ℕ) → SoFar a left b n → IsAtEnd left → IfSome a (λ f. Stands f b n)
+all_of None left b n s e = tt
+all_of (Some f) None b n s e = absurd s.gave
+all_of (Some f) (Some rest) b n s e =
+    subst (λ (l : List ℕ). Stands l b n) (sym (s.gave ∙ ap (λ (l : List ℕ). s.given ++ l) e ∙ append-nil s.given)) s.stand
+
+-- the sheet of the bytes that stand for all of it is the sheet of all of it
+pub same_text : (a x y : Option (List ℕ)) (b : List ℕ) (n : ℕ) → IfSome a (λ f. Stands f b n) → Appends x y (sheet_text (take n b) blank)
+    → IfSome a (λ f. Appends x y (sheet_text f blank))
+same_text None x y b n s h = tt
+same_text (Some f) x y b n s h = grew_as x y (same_sheet s blank) h
