@@ -6,7 +6,7 @@ use crate::alphas::{inner_alpha, outer_alpha};
 use crate::beams::thousands;
 use crate::compare::formula;
 use crate::edge::{edge_strip, edge_width};
-use crate::limits::unlikeness;
+use crate::method_limits::unlikeness;
 use std::io;
 use std::io::Write;
 use stiffness::section::{Section, edge_torsion};

@@ -11,7 +11,7 @@ mod beams;
 mod compare;
 mod edge;
 mod general;
-mod limits;
+mod method_limits;
 mod panels;
 mod plates;
 
@@ -102,7 +102,7 @@ fn one<R: Read, W: Write>(input: &mut R, out: &mut W) -> io::Result<bool> {
 fn formulas<W: Write>(out: &mut W) -> io::Result<()> {
     let refused = grade_420(20000000, 1000, 150, 124, 30).refusal;
     figure(out, 1, 12, refused)?;
-    limits::all(out)?;
+    method_limits::all(out)?;
     beams::all(out)?;
     plates::all(out)?;
     panels::all(out)?;

@@ -2,8 +2,8 @@
 -- Assumes nothing.
 use borrow.Author.Rules.{rules}
 use Rattle.numbers.proofs.Bounded.{◌⊗◌, #, fits}
-use Rattle.figures.proofs.limits.unlikeness.Statement.{statement}
-use Rattle.figures.proofs.limits.unlikeness.Tie as tie
+use Rattle.figures.proofs.method_limits.unlikeness.Statement.{statement}
+use Rattle.figures.proofs.method_limits.unlikeness.Tie as tie
 
 pub unlikeness_spec : {M : Type 1} → statement M
 unlikeness_spec =
