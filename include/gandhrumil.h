@@ -1,7 +1,7 @@
 /* Gandhrumil: suspended concrete floors by the Direct Design Method of ACI 318-14.
  *
- * Link with libgandhrumil.a, which `rt staticlib gandhrumil` proves and writes to target/staticlib (x86-64). Of the C library it
- * needs memcpy and memset, and nothing else.
+ * Link with libgandhrumil.a, which `./library` proves and writes to target/library (x86-64). Of the C library it needs memcpy and
+ * memset, and nothing else.
  *
  * Every call takes any bytes, any lengths and any numbers, and always returns: nothing has to be looked at first. A length counts
  * what its pointer points to: bytes of a floor, a change or a schedule, numbers of a table, of governing moments or of places. A
@@ -19,9 +19,9 @@
 /* Rises by 1 with each change of what is declared here and each change of an answer. docs/CHANGES.md says what a caller must do. */
 #define GANDHRUMIL_VERSION 8
 
-/* A call uses less than GANDHRUMIL_STACK bytes of stack. Measured on floors of 12 by 12 bays, clear and not, on aarch64,
- * gandhrumil_schedule, which holds a table of its own, uses less than 22 KiB, and every other call less than 7 KiB, in version 1 on
- * x86-64 too, under an emulator; the rest is margin. */
+/* A call uses less than GANDHRUMIL_STACK bytes of stack. Measured on floors of 12 by 12 bays, clear and not, on x86-64,
+ * gandhrumil_schedule, which holds a table of its own, uses less than 22 KiB, and every other call less than 7 KiB; the rest is
+ * margin. */
 #define GANDHRUMIL_STACK 32768
 
 /* So many numbers have room for the places of any floor: there are no more than 793, of four numbers each. With them 25 is never given. */
