@@ -19,7 +19,7 @@ is_new() { # FILE NAME
     local name folders=()
     [ -f "$1" ] || return 1
     for name in $(crates_of "$2"); do folders+=("crates/$name"); done
-    [ -z "$(find crates.txt "${folders[@]}" -name out -prune -o -type f -newer "$1" -print -quit)" ]
+    [ -z "$(find crates.txt "${folders[@]}" \( -name out -o -name must-fail \) -prune -o -type f -newer "$1" -print -quit)" ]
 }
 
 # Runs a command of rt in the folder of the crate NAME, which proves it and what it is proved with. On standard error a line for each crate that it proves,
