@@ -27,7 +27,7 @@ export function givenText(name, text) {
 
 /**
  * The bytes of the floor that a file holds, itself a floor file or a text. Of a file longer than any floor only a piece is read, which is refused as
- * the whole would be: by its first record, and its length modulo 16 (`crates/print/proofs`: `long-alike`).
+ * the whole would be: by its first record, and its length modulo 16 (`crates/print/proofs`: `long_alike`).
  * @param {File} file @returns {Promise<Given>}
  */
 export async function givenFile(file) {

@@ -38,7 +38,7 @@ impl Input {
     }
 
     /// The bytes to judge as a floor file. Of what is longer than any floor, 1, 2 or 3 is refused by the length modulo 16 and the first record
-    /// alone (`crates/print/proofs`: `long-alike`): a shorter piece with the same two stands for it.
+    /// alone (`crates/print/proofs`: `long_alike`): a shorter piece with the same two stands for it.
     pub fn floor(&self) -> &[u8] {
         if self.length == self.head.len() as u64 {
             return &self.head;
