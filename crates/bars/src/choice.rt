@@ -36,21 +36,24 @@ pub fn bars_for(width: u64, area: u64, t: u64) -> Bars
     ensures { result ≡ bars_for width area t }
 {
     let ten = widest(79, width, area, t);
-    if CLOSEST <= ten {
+    let ten_fits = CLOSEST <= ten;
+    if ten_fits {
         return Bars {
             diameter: 10,
             spacing: ten as u32,
         };
     }
     let twelve = widest(113, width, area, t);
-    if CLOSEST <= twelve {
+    let twelve_fits = CLOSEST <= twelve;
+    if twelve_fits {
         return Bars {
             diameter: 12,
             spacing: twelve as u32,
         };
     }
     let sixteen = widest(201, width, area, t);
-    if CLOSEST <= sixteen {
+    let sixteen_fits = CLOSEST <= sixteen;
+    if sixteen_fits {
         return Bars {
             diameter: 16,
             spacing: sixteen as u32,

@@ -93,7 +93,8 @@ pub fn judge(f: &[u8], c: &[u8]) -> Ruling
     ensures { result ≡ ruling f.now c.now }
 {
     let held = refusal::refusal(f);
-    if held != 0 {
+    let is_refused = held != 0;
+    if is_refused {
         return ruling_of(held, 0);
     }
     let b = bays_of(f);

@@ -9,26 +9,26 @@ pub overflow_cast-result : goal.overflow_cast-result
 unfolding bars_for
 overflow_cast-result c = fits c.widest-ten.ensures.1 tt
 
-pub returns-then-ten-ge-CLOSEST : goal.returns-then-ten-ge-CLOSEST
+pub returns-then-ten_fits : goal.returns-then-ten_fits
 unfolding bars_for
-returns-then-ten-ge-CLOSEST c = rw (← c.widest-ten.ensures.0, le-leb _ _ c.if-ten-ge-CLOSEST.true)
+returns-then-ten_fits c = rw (← c.widest-ten.ensures.0, le-leb _ _ c.if-ten_fits.true)
 
-pub overflow_cast-result-then-twelve-ge-CLOSEST : goal.overflow_cast-result-then-twelve-ge-CLOSEST
+pub overflow_cast-result-then-twelve_fits : goal.overflow_cast-result-then-twelve_fits
 unfolding bars_for
-overflow_cast-result-then-twelve-ge-CLOSEST c = fits c.widest-twelve.ensures.1 tt
+overflow_cast-result-then-twelve_fits c = fits c.widest-twelve.ensures.1 tt
 
-pub returns-then-twelve-ge-CLOSEST : goal.returns-then-twelve-ge-CLOSEST
+pub returns-then-twelve_fits : goal.returns-then-twelve_fits
 unfolding bars_for
-returns-then-twelve-ge-CLOSEST c = rw (← c.widest-ten.ensures.0, ← c.widest-twelve.ensures.0, lt-leb _ _ c.if-ten-ge-CLOSEST.false, le-leb _ _ c.if-twelve-ge-CLOSEST.true)
+returns-then-twelve_fits c = rw (← c.widest-ten.ensures.0, ← c.widest-twelve.ensures.0, lt-leb _ _ c.if-ten_fits.false, le-leb _ _ c.if-twelve_fits.true)
 
-pub overflow_cast-result-then-sixteen-ge-CLOSEST : goal.overflow_cast-result-then-sixteen-ge-CLOSEST
+pub overflow_cast-result-then-sixteen_fits : goal.overflow_cast-result-then-sixteen_fits
 unfolding bars_for
-overflow_cast-result-then-sixteen-ge-CLOSEST c = fits c.widest-sixteen.ensures.1 tt
+overflow_cast-result-then-sixteen_fits c = fits c.widest-sixteen.ensures.1 tt
 
-pub returns-then-sixteen-ge-CLOSEST : goal.returns-then-sixteen-ge-CLOSEST
+pub returns-then-sixteen_fits : goal.returns-then-sixteen_fits
 unfolding bars_for
-returns-then-sixteen-ge-CLOSEST c = rw (← c.widest-ten.ensures.0, ← c.widest-twelve.ensures.0, ← c.widest-sixteen.ensures.0, lt-leb _ _ c.if-ten-ge-CLOSEST.false, lt-leb _ _ c.if-twelve-ge-CLOSEST.false, le-leb _ _ c.if-sixteen-ge-CLOSEST.true)
+returns-then-sixteen_fits c = rw (← c.widest-ten.ensures.0, ← c.widest-twelve.ensures.0, ← c.widest-sixteen.ensures.0, lt-leb _ _ c.if-ten_fits.false, lt-leb _ _ c.if-twelve_fits.false, le-leb _ _ c.if-sixteen_fits.true)
 
 pub returns : goal.returns
 unfolding bars_for
-returns c = rw (← c.widest-ten.ensures.0, ← c.widest-twelve.ensures.0, ← c.widest-sixteen.ensures.0, lt-leb _ _ c.if-ten-ge-CLOSEST.false, lt-leb _ _ c.if-twelve-ge-CLOSEST.false, lt-leb _ _ c.if-sixteen-ge-CLOSEST.false)
+returns c = rw (← c.widest-ten.ensures.0, ← c.widest-twelve.ensures.0, ← c.widest-sixteen.ensures.0, lt-leb _ _ c.if-ten_fits.false, lt-leb _ _ c.if-twelve_fits.false, lt-leb _ _ c.if-sixteen_fits.false)
