@@ -101,12 +101,15 @@ fn tabled(divisor: u64, ln: u64) -> Bound
     }
 }
 
+// 01: with beams everywhere, "S > 80000", the stiffness of a panel's four lines together.
+const STIFF_ABOVE: u64 = 80000;
+
 fn rule_of(p: Panel) -> Bound
     requires { PanelSizes p.fy p.sn p.ln }
     ensures { Asks (answer_of01 p) result }
 {
     if p.everywhere {
-        if 80000 < p.s {
+        if STIFF_ABOVE < p.s {
             return stiff(p.fy, p.sn, p.ln);
         }
         if 8000 < p.s {
