@@ -1,2 +1,3 @@
 pub mod OneSpan
 pub mod Meaning
+pub mod Printed

@@ -1,6 +1,8 @@
 // A printed figure against ours, and the line that says so.
-ghost use Rattle.std.specs.Prelude.{◌≡◌};
+ghost use Rattle.std.specs.Prelude.{◌≡◌, min, OnOk};
+ghost use Rattle.std.specs.Io.KnownBytes.{Appends};
 ghost use Rattle.figures.specs.Comparison.{off_by, within};
+ghost use Rattle.figures.specs.Lines.{number_text, word_text, figure_line};
 
 use numbers::{larger, smaller};
 use std::io;
@@ -23,11 +25,15 @@ fn is_within(off: u64) -> bool
     off <= 100
 }
 
-fn show_number<W: Write>(out: &mut W, n: u64) -> io::Result<()> {
+fn show_number<W: Write>(out: &mut W, n: u64) -> io::Result<()>
+    ensures { OnOk result (Appends (W.contents out.old) (W.contents out.new) (number_text n)) }
+{
     write!(out, "{n} ")
 }
 
-fn show_word<W: Write>(out: &mut W, within: bool) -> io::Result<()> {
+fn show_word<W: Write>(out: &mut W, within: bool) -> io::Result<()>
+    ensures { OnOk result (Appends (W.contents out.old) (W.contents out.new) (word_text within)) }
+{
     if within {
         out.write_all(b"within\n")
     } else {
@@ -36,7 +42,9 @@ fn show_word<W: Write>(out: &mut W, within: bool) -> io::Result<()> {
 }
 
 // A line: the figure's number in docs/FIGURES.md, theirs, ours, the difference, and whether it is within one percent.
-pub fn figure<W: Write>(out: &mut W, number: u32, theirs: u32, ours: u32) -> io::Result<()> {
+pub fn figure<W: Write>(out: &mut W, number: u32, theirs: u32, ours: u32) -> io::Result<()>
+    ensures { OnOk result (Appends (W.contents out.old) (W.contents out.new) (figure_line number theirs ours)) }
+{
     let off = compare(theirs, ours);
     show_number(out, number as u64)?;
     show_number(out, theirs as u64)?;
@@ -46,6 +54,8 @@ pub fn figure<W: Write>(out: &mut W, number: u32, theirs: u32, ours: u32) -> io:
 }
 
 // The same of a formula, whose numbers are wider. None of them reaches 32 bits here.
-pub fn formula<W: Write>(out: &mut W, number: u32, theirs: u32, ours: u64) -> io::Result<()> {
+pub fn formula<W: Write>(out: &mut W, number: u32, theirs: u32, ours: u64) -> io::Result<()>
+    ensures { OnOk result (Appends (W.contents out.old) (W.contents out.new) (figure_line number theirs (min ours 4294967295))) }
+{
     figure(out, number, theirs, smaller(ours, 4294967295) as u32)
 }
