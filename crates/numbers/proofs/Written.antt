@@ -1,6 +1,6 @@
 -- Records written into a list one after another, over the width: what each number is afterwards, and that runs of records join.
 -- A number is found by its record and its place in it, so two such lists are compared record by record.
---     from_none, from_more, from_run      the loop's entry, one turn more, and one run after another (written-more: from record 0 on)
+--     from_none, from_more, from_run      the loop's entry, one turn more, and one run after another (written_more: from record 0 on)
 --     written_at, written_past            what is there afterwards
 --     same_records, same_written          when two lists, or two writings, are equal
 --     in_range, rewritten                 one stretch of a line; and the picked records anew, which is all of them anew

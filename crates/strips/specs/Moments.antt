@@ -3,7 +3,7 @@
 use Rattle.std.specs.Prelude.{ℕ, ◌+◌, ◌-◌, ◌*◌, ◌/◌, max}
 use Rattle.numbers.specs.Rounding.{up}
 
--- "Clear length is max(l1 − column, 0.65·l1)": whole mm, since spans are multiples of 20 (clear-exact)
+-- "Clear length is max(l1 − column, 0.65·l1)": whole mm, since spans are multiples of 20 (clear_exact)
 unfoldable pub clear_length : ℕ → ℕ → ℕ
 clear_length l1 column = max (l1 - column) (65 * l1 / 100)
 

@@ -1,4 +1,4 @@
--- After k turns the first k spans have all their bars, and with `store` their records are written (span-next: one more). A span without ends the pass.
+-- After k turns the first k spans have all their bars, and with `store` their records are written (span_next: one more). A span without ends the pass.
 -- Assumes nothing.
 use Prim.Native.Nat.{ℕ, ◌*◌}
 use mathlib.Core.Bool.{false}

@@ -1,4 +1,4 @@
--- After q turns the first q strips have their bars, and with `store` their records are written (strip-next: one more). A strip without bars ends the pass.
+-- After q turns the first q strips have their bars, and with `store` their records are written (strip_next: one more). A strip without bars ends the pass.
 -- Assumes nothing.
 use Prim.Native.Nat.{◌*◌, ◌-◌, ◌≤◌}
 use mathlib.Core.Bool.{true, cond}

@@ -1,4 +1,4 @@
--- After k turns the first k records are zeros (written-more: one record more).
+-- After k turns the first k records are zeros (written_more: one record more).
 -- Assumes nothing.
 use mathlib.Core.Path.{◌≡◌, refl, sym}
 use native.Mathlib.Omega.{arith}

@@ -1,4 +1,4 @@
--- After k turns the first k records are zeros (written-more: one record more).
+-- After k turns the first k records are zeros (written_more: one record more).
 -- Assumes nothing.
 use Prim.Native.Nat.{◌≤◌, ◌-◌}
 use mathlib.Core.Path.{◌≡◌}
