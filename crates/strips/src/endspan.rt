@@ -72,7 +72,7 @@ pub fn inner_percent(place: SpanPlace) -> u64
     }
 }
 
-// typeof.p.Mo, in N·cm.
+// p·Mo, in N·cm.
 pub fn section_total(percent: u64, moment: u64) -> u64
     requires { Percentage percent moment }
     ensures { (result ≡ section_total percent moment) × (result ≤ 1879200000) }
