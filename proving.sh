@@ -28,7 +28,7 @@ proving() { # NAME COMMAND WORDS..
     local name=$1 order place crate=$1 line said=
     shift
     mapfile -t order < <(crates_of "$name")
-    [ -d "crates/${order[0]}/out" ] || echo "proving ${#order[@]} crates, which takes some minutes" >&2
+    [ -d "crates/${order[0]}/out" ] || echo "proving ${#order[@]} crates, which can take ten minutes and more" >&2
     while IFS= read -r line; do
         said+=$line$'\n'
         case $line in
