@@ -3,8 +3,6 @@ ghost use Rattle.std.specs.Prelude.{◌≡◌, ◌+◌, ◌*◌, ◌≤◌, leng
 ghost use Rattle.numbers.specs.Records.{put, written_from, every};
 ghost use Rattle.bars.specs.Entries.{number_bytes, entry_numbers, eight_of, four_bytes, entry_at};
 
-use changes::store_at;
-
 // The table record and the section that it is of, the strip, and what is laid there.
 #[derive(Clone, Copy)]
 pub struct Entry {
@@ -23,25 +21,17 @@ pub const NUMBERS: usize = 8;
 
 pub const BYTES: usize = 4;
 
-fn four_bytes(n: u32) -> [u8; BYTES]
-    ensures { result ≡ four_bytes n }
-{
-    [
-        (n % 256) as u8,
-        (n / 256 % 256) as u8,
-        (n / 65536 % 256) as u8,
-        (n / 16777216 % 256) as u8,
-    ]
-}
-
 // Number i of the schedule.
+// A number's bytes into bytes: with `write_record` of crate tables, which copies numbers, it shares one call of the library's method.
 fn write_number(schedule: &mut [u8], i: usize, n: u32)
     requires { i * number_bytes + number_bytes ≤ length schedule.old }
     ensures { schedule.new ≡ put number_bytes i (four_bytes n) schedule.old }
 {
-    store_at(schedule, i * BYTES, &four_bytes(n));
+    let at = i * BYTES;
+    schedule[at..at + BYTES].copy_from_slice(&n.to_le_bytes());
 }
 
+// In the order of the format. A From would hold the same list, and its call would not say what it lists.
 fn numbers_of(e: Entry) -> [u32; NUMBERS]
     ensures { result ≡ eight_of e }
 {
@@ -56,9 +46,7 @@ pub fn write_entry(schedule: &mut [u8], k: usize, e: Entry)
     ensures { schedule.new ≡ written_from number_bytes every (entry_at k e) (k * entry_numbers) entry_numbers schedule.old }
 {
     let numbers = numbers_of(e);
-    let mut n: usize = 0;
-    while n < NUMBERS {
-        write_number(schedule, k * NUMBERS + n, numbers[n]);
-        n += 1;
+    for (n, number) in numbers.iter().enumerate() {
+        write_number(schedule, k * NUMBERS + n, *number);
     }
 }

@@ -2,8 +2,6 @@
 ghost use Rattle.std.specs.Prelude.{◌≡◌};
 ghost use Rattle.bars.specs.Widths.{beam_off, column_width, middle_width};
 
-use numbers::larger;
-
 // What the beam takes of the column strip.
 fn beam_off(outer: bool, beam: u32) -> u64
     ensures { result ≡ beam_off outer beam }
@@ -16,11 +14,11 @@ pub fn column_width(outer: bool, strip: u64, beam: u32) -> u64
     ensures { result ≡ column_width outer strip beam }
 {
     let off = beam_off(outer, beam);
-    larger(strip, off) - off
+    strip.saturating_sub(off)
 }
 
 pub fn middle_width(width: u64, strip: u64) -> u64
     ensures { result ≡ middle_width width strip }
 {
-    larger(width, strip) - strip
+    width.saturating_sub(strip)
 }

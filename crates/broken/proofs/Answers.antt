@@ -4,14 +4,14 @@
 --     places_answer_lem, places_answer_one    by statements, and no second answer
 -- Assumes nothing.
 use Prim.Native.Nat.{ℕ, ◌+◌, ◌*◌, ◌≤◌}
-use mathlib.Core.Bool.{Bool, true, false, not}
+use mathlib.Core.Bool.{true, false}
 use mathlib.Core.List.{List, []}
 use mathlib.Core.Path.{◌≡◌, refl, sym, ap, ◌∙◌}
 use native.Mathlib.Nat.{zero-add}
 use native.Mathlib.Omega.{arith}
 use lib.Dec.{leb}
 use lib.ListN.{length}
-use borrow.Author.Tests.{ne_eqb, le-leb, not-true, not-false}
+use borrow.Author.Tests.{ne_eqb, le-leb}
 use Rattle.numbers.specs.Chains.{Sound}
 use Rattle.numbers.specs.Chains.Sound.{done, ◌then◌}
 use Rattle.numbers.proofs.Tests.{says_le, says_eq, by_says}
@@ -69,15 +69,14 @@ module _ (f t : List ℕ) where
   unfolding places_answer places_left
   listed_is e = record { answer = rw (← e); slice = rw (← e) }
 
-  -- r answers whether there is room
-  module _ (e : refusal f ≡ 0) {r : Bool} (asked : r ≡ has_room f (length t)) where
-    pub too_short : not r ≡ true → Placed f t (answer 25 0) t
-    too_short h = refused_is (no_room f (length t) e (sym asked ∙ not-true r h)) (λ z. omega (arith, z))
+  module _ (e : refusal f ≡ 0) where
+    pub too_short : false ≡ has_room f (length t) → Placed f t (answer 25 0) t
+    too_short h = refused_is (no_room f (length t) e (sym h)) (λ z. omega (arith, z))
 
-    pub written : not r ≡ false → {m : ℕ} {u : List ℕ} → Listed 0 (places_of f) t m u → Placed f t (answer 0 m) u
+    pub written : true ≡ has_room f (length t) → {m : ℕ} {u : List ℕ} → Listed 0 (places_of f) t m u → Placed f t (answer 0 m) u
     unfolding has_room
     written h l =
-        let room : length (places_of f) * place_width ≤ length t = (says_le (length (places_of f) * place_width) (length t)).holds (sym asked ∙ not-false r h) in
+        let room : length (places_of f) * place_width ≤ length t = (says_le (length (places_of f) * place_width) (length t)).holds (sym h) in
         let q = listed_is (room_suffices f (length t) e room) in
         record { answer = ap (answer 0) (l.count ∙ zero-add (length (places_of f))) ∙ q.answer; slice = l.slice ∙ laid_in (places_of f) t room ∙ q.slice }
 

@@ -1,7 +1,8 @@
 -- What the test of a limit asks at one of its places, and what it then says.
 --     bays_some, few_at             the bays of an accepted floor, and limit 1
 --     extent_is, extent_most        the extent of a limit's places, as it is worked out
---     at_place, place_as, ..-asks   a place of a row; and once its limit is known, what that limit's test asks
+--     at_place, in_row              a place of a row, and a row
+--     place_as, panel_asks          its statement, once its limit is known, and what the test of a panel asks
 -- Assumes nothing.
 use Prim.Native.Nat.{ℕ, ◌+◌, ◌*◌, ◌<◌, ◌≤◌}
 use mathlib.Core.Bool.{Bool}
@@ -14,28 +15,28 @@ use Rattle.plan.specs.Ways.{pick}
 use Rattle.plan.specs.declared.read.Bays.{Bays}
 use Rattle.plan.specs.Plan.{bays, bays_of}
 use Rattle.floor.proofs.Fair.{fair}
-use Rattle.lines.specs.declared.slab.Slab.{Slab}
-use Rattle.lines.specs.Asked.{Surveyed, PanelAtHand, AtPanel}
+use Rattle.lines.specs.declared.survey.Floor.{Floor}
+use Rattle.lines.specs.declared.survey.Lines.{Lines}
+use Rattle.lines.specs.Asked.{StiffPanel}
 use Rattle.lines.proofs.Slabs.{sized_of, bays_of_lem}
-use Rattle.lines.proofs.Filled.{at_panel}
+use Rattle.lines.proofs.Filled.{stiff_at}
 use Rattle.limits.specs.declared.Limit.{Limit}
 use Rattle.limits.specs.declared.Limit.TheVariants.{Few, Slender, Uneven, Astray, Heavy, Unbalanced, Thin}
 use Rattle.limits.specs.Limits.{too_few}
 use Rattle.limits.specs.Places.{extent}
 use Rattle.limits.specs.Meaning.{PanelAt, PlaceOf}
 use Rattle.limits.proofs.Places.{in_place}
-use Rattle.places.specs.Asked.{AtSpan, OneColumn}
 use Rattle.broken.specs.Asked.{SomeBays, AtPlace, InRow, Along}
 
-module _ {f : List ℕ} {slab : Slab} {s : List (List ℕ)} (p : Surveyed f slab s) where
-  pub bays_some : SomeBays slab.bays
+module _ (o : Floor) where
+  pub bays_some : SomeBays o.slab.bays
   bays_some =
-      let b = bays_of_lem f p.shared in
-      let n = (fair f p.accepted).bays_in in
+      let b = bays_of_lem o.bytes.now o.shared in
+      let n = (fair o.bytes.now o.accepted).bays_in in
       record { x_some = omega (arith, (b X).0, n X); x_most = omega (arith, (b X).0, n X); y_some = omega (arith, (b Y).0, n Y); y_most = omega (arith, (b Y).0, n Y) }
 
-  pub few_at : (d : Way) {n : ℕ} {b : Bool} → n ≡ pick d slab.bays.x slab.bays.y → b ≡ too_few n → b ≡ too_few (bays f d)
-  few_at d e q = q ∙ rw (e, (bays_of_lem f p.shared d).0)
+  pub few_at : (d : Way) {n : ℕ} {b : Bool} → n ≡ pick d o.slab.bays.x o.slab.bays.y → b ≡ too_few n → b ≡ too_few (bays o.bytes.now d)
+  few_at d e q = q ∙ rw (e, (bays_of_lem o.bytes.now o.shared d).0)
 
 -- ---- the extent of a limit's places
 
@@ -54,44 +55,32 @@ most Unbalanced Y h = (omega arith, omega arith)
 most Thin X h = (omega (arith, h.x_most), omega (arith, h.y_most))
 most Thin Y h = (omega arith, omega arith)
 
--- as worked out from a slab at hand
-module _ {f : List ℕ} {slab : Slab} {s : List (List ℕ)} (p : Surveyed f slab s) (l : Limit) (d : Way) {e : Bays} (q : e ≡ extent l d slab.bays) where
-  pub extent_is : e ≡ extent l d (bays_of f)
-  extent_is = q ∙ ap (λ (b : Bays). extent l d b) (sized_of f p.shared).is
+-- as worked out from the bays at hand
+module _ (o : Floor) (l : Limit) (d : Way) {e : Bays} (q : e ≡ extent l d o.slab.bays) where
+  pub extent_is : e ≡ extent l d (bays_of o.bytes.now)
+  extent_is = q ∙ ap (λ (b : Bays). extent l d b) (sized_of o.bytes.now o.shared).is
 
   pub extent_most : (e.x ≤ 13) × (e.y ≤ 13)
-  extent_most = rw q (most l d (bays_some p))
+  extent_most = rw q (most l d (bays_some o))
 
 -- place i of row j
-pub at_place : {f : List ℕ} {slab : Slab} {s a : List (List ℕ)} {l : Limit} {d : Way} {i j n : ℕ} {e : Bays} → InRow f slab s a l d j n
-    → e ≡ extent l d slab.bays → i < e.x → AtPlace f slab s a l d i j
-at_place {f} {l = l} {d} {i} p q h =
-    let r = p.ready in
-    let x = ap (λ (b : Bays). b.x) (extent_is r.surveyed l d q) in
-    record { ready = r; place = in_place f l d (omega (arith, h, x)) p.row }
+pub at_place : (o : Floor) {l : Limit} {d : Way} {i j n : ℕ} {e : Bays} → InRow o.bytes.now l d j n → e ≡ extent l d o.slab.bays → i < e.x
+    → AtPlace o.bytes.now l d i j
+at_place o {l} {d} p q h = let x = ap (λ (b : Bays). b.x) (extent_is o l d q) in record { place = in_place o.bytes.now l d (omega (arith, h, x)) p.row }
 
 -- row j, when 13 places or fewer were listed for each row before it
-pub in_row : {f : List ℕ} {slab : Slab} {s a : List (List ℕ)} {n : ℕ} → Along f slab s a n → (l : Limit) (d : Way) {e : Bays} {j m : ℕ}
-    → e ≡ extent l d slab.bays → j < e.y → m ≤ n + 13 * j → InRow f slab s a l d j m
-in_row p l d q h few =
-    let r = p.ready.surveyed in
-    let y = ap (λ (b : Bays). b.y) (extent_is r l d q) in
-    record { ready = p.ready; row = omega (arith, h, y); most = omega (arith, h, few, p.most, extent_most r l d q) }
+pub in_row : (o : Floor) {n : ℕ} → Along n → (l : Limit) (d : Way) {e : Bays} {j m : ℕ} → e ≡ extent l d o.slab.bays → j < e.y → m ≤ n + 13 * j
+    → InRow o.bytes.now l d j m
+in_row o p l d q h few =
+    let y = ap (λ (b : Bays). b.y) (extent_is o l d q) in
+    record { row = omega (arith, h, y); most = omega (arith, h, few, p.most, extent_most o l d q) }
 
 -- ---- a place
 
-module _ {f : List ℕ} {slab : Slab} {s a : List (List ℕ)} {l : Limit} {d : Way} {i j : ℕ} (p : AtPlace f slab s a l d i j) where
-  pub place_as : {k : Limit} → l ≡ k → PlaceOf f k d i j
-  place_as e = subst (λ m. PlaceOf f m d i j) e p.place
+-- its statement, once its limit is known
+pub place_as : {f : List ℕ} {l : Limit} {d : Way} {i j : ℕ} → AtPlace f l d i j → {k : Limit} → l ≡ k → PlaceOf f k d i j
+place_as {f} {d = d} {i} {j} p e = subst (λ m. PlaceOf f m d i j) e p.place
 
-  pub panel_asks : PanelAt f d i j → AtPanel f slab s a i j
-  panel_asks h = at_panel p.ready h.1 h.2
-
-  pub slender_asks : l ≡ Slender → PanelAtHand f slab s i j
-  slender_asks e = (panel_asks (place_as e)).panel
-
-  pub uneven_asks : l ≡ Uneven → {k : ℕ} → k ≡ pick d i j → AtSpan f slab s d k
-  uneven_asks e q = record { surveyed = p.ready.surveyed; next = rw q (place_as e).0 }
-
-  pub astray_asks : l ≡ Astray → OneColumn f slab s i j
-  astray_asks e = record { surveyed = p.ready.surveyed; y_line = (place_as e).0; x_line = (place_as e).1 }
+-- what a test of a panel asks
+pub panel_asks : (v : Lines) (d : Way) {i j : ℕ} → PanelAt v.survey.floor.bytes.now d i j → StiffPanel v.survey.floor.bytes.now v.alphas i j
+panel_asks v d h = stiff_at v.stiff h.1 h.2

@@ -4,8 +4,6 @@ use Rattle.std.specs.Prelude.{ℕ, ◌≤◌, ◌<◌, List, ◌≡◌}
 use Rattle.plan.specs.declared.ways.Way.{Way}
 use Rattle.plan.specs.declared.read.Bays.{Bays}
 use Rattle.plan.specs.Plan.{bays_of}
-use Rattle.lines.specs.declared.slab.Slab.{Slab}
-use Rattle.lines.specs.Asked.{Ready}
 use Rattle.limits.specs.declared.Limit.{Limit}
 use Rattle.limits.specs.Limits.{verdict}
 use Rattle.limits.specs.Places.{extent}
@@ -19,8 +17,7 @@ pub record SomeBays (b : Bays) : Type 0 where
   pub y_most : b.y ≤ 12
 
 -- a place of a limit
-pub record AtPlace (f : List ℕ) (slab : Slab) (s a : List (List ℕ)) (l : Limit) (d : Way) (i j : ℕ) : Type 0 where
-  pub ready : Ready f slab s a
+pub record AtPlace (f : List ℕ) (l : Limit) (d : Way) (i j : ℕ) : Type 0 where
   pub place : PlaceOf f l d i j
 
 -- n places are listed
@@ -28,22 +25,18 @@ pub record Counted (n : ℕ) : Type 0 where
   pub most : n ≤ 5000
 
 -- row j of a limit's places along d, after n places
-pub record InRow (f : List ℕ) (slab : Slab) (s a : List (List ℕ)) (l : Limit) (d : Way) (j n : ℕ) : Type 0 where
-  pub ready : Ready f slab s a
+pub record InRow (f : List ℕ) (l : Limit) (d : Way) (j n : ℕ) : Type 0 where
   pub row : j < (extent l d (bays_of f)).y
   pub most : n ≤ 4000
 
 -- a direction of a limit, after n places
-pub record Along (f : List ℕ) (slab : Slab) (s a : List (List ℕ)) (n : ℕ) : Type 0 where
-  pub ready : Ready f slab s a
+pub record Along (n : ℕ) : Type 0 where
   pub most : n ≤ 3500
 
 -- a limit, after n places
-pub record OfLimit (f : List ℕ) (slab : Slab) (s a : List (List ℕ)) (n : ℕ) : Type 0 where
-  pub ready : Ready f slab s a
+pub record OfLimit (n : ℕ) : Type 0 where
   pub most : n ≤ 3000
 
 -- v is the floor's verdict
-pub record Judged (f : List ℕ) (slab : Slab) (s a : List (List ℕ)) (v : ℕ) : Type 0 where
-  pub ready : Ready f slab s a
+pub record Judged (f : List ℕ) (v : ℕ) : Type 0 where
   pub verdict : v ≡ verdict f

@@ -3,6 +3,7 @@
 #![tactic(auto)]
 
 ghost use Rattle.std.specs.Prelude.{◌≡◌, ◌+◌, ◌≤◌};
+ghost use Rattle.answers.specs.Answers.{query_answer};
 ghost use Rattle.floor.specs.Asked.{Accepted};
 ghost use Rattle.limits.specs.Places.{undirected, extent, broken_at};
 ghost use Rattle.broken.specs.Listing.{row_places, places_along, limit_places, places_of};
@@ -10,12 +11,11 @@ ghost use Rattle.broken.specs.Laid.{noted, Listed};
 ghost use Rattle.broken.specs.Answers.{has_room, Placed};
 ghost use Rattle.broken.specs.Asked.{SomeBays, AtPlace, InRow, Along, OfLimit, Judged, Counted};
 
-use answers::{Answer, refused_query, success};
+use answers::Refusal;
 use extremes::{slender_at, unequal_at};
+use floor::refusal::accept;
 use limits::{Limit, few_along, heavy, limit_at, number};
-use lines::line::{alphas, spans};
-use lines::panel::panel_thickness;
-use lines::slab::{Slab, slab_of};
+use lines::survey::{Lines, Survey};
 use places::{astray_along, unlike_next};
 use plan::read::Bays;
 use plan::ways::{Way, pick};
@@ -60,28 +60,23 @@ fn extent(limit: Limit, d: Way, b: Bays) -> Bays
 }
 
 // Is the limit broken at this place?
-fn broken_at(
-    f: &[u8],
-    slab: Slab,
-    spans: &[[u64; 13]; 2],
-    alphas: &[[u64; 13]; 2],
-    limit: Limit,
-    d: Way,
-    i: u32,
-    j: u32,
-) -> bool
-    requires { AtPlace f.now slab spans.now alphas.now limit d i j }
-    ensures { result ≡ broken_at f.now limit d i j }
+// A match, not a closure for each limit: the walks below list a place with its limit, and the clauses name it. They take limit and way one by
+// one, as `broken_at` of specs/ does.
+fn broken_at(lines: &Lines, limit: Limit, d: Way, i: u32, j: u32) -> bool
+    requires { AtPlace lines.now.survey.floor.bytes.now limit d i j }
+    ensures { result ≡ broken_at lines.now.survey.floor.bytes.now limit d i j }
 {
+    let survey = &lines.survey;
+    let slab = survey.floor.slab;
     match limit {
         Limit::Few => few_along(pick(d, slab.bays.x, slab.bays.y)),
-        Limit::Slender => slender_at(f, slab, spans, i, j),
-        Limit::Uneven => unlike_next(f, slab, spans, d, pick(d, i, j)),
-        Limit::Astray => astray_along(f, slab, spans, d, i, j),
+        Limit::Slender => slender_at(survey, i, j),
+        Limit::Uneven => unlike_next(survey, d, pick(d, i, j)),
+        Limit::Astray => astray_along(survey, d, i, j),
         Limit::Heavy => heavy(slab.dead, slab.live),
-        Limit::Unbalanced => unequal_at(f, slab, spans, alphas, i, j),
+        Limit::Unbalanced => unequal_at(survey, &lines.alphas, i, j),
         // Not by `thick_enough`, which the compiler puts into the verdict's walk as long as it has no other caller.
-        Limit::Thin => (slab.t as u64) < panel_thickness(f, slab, spans, alphas, i, j),
+        Limit::Thin => (slab.t as u64) < survey.panel_thickness(&lines.alphas, i, j),
     }
 }
 
@@ -93,7 +88,8 @@ pub struct Place {
     pub j: u32,
 }
 
-// Place n of the list, written where the slice has room for it: one without room serves to count.
+// Place n of the list, written where the slice has room for it: one without room serves to count. Limit and direction as numbers, C's format.
+// The slice and the count are two, not one struct: each clause of the walk would have to say, besides, that the struct keeps its slice.
 fn note(places: &mut [u32], n: u32, p: Place)
     requires { Counted n }
     ensures { places.new ≡ noted n p places.old }
@@ -108,147 +104,88 @@ fn note(places: &mut [u32], n: u32, p: Place)
 }
 
 // The places of row j, after the n that were listed before.
-fn list_row(
-    f: &[u8],
-    slab: Slab,
-    spans: &[[u64; 13]; 2],
-    alphas: &[[u64; 13]; 2],
-    limit: Limit,
-    d: Way,
-    j: u32,
-    places: &mut [u32],
-    n: u32,
-) -> u32
-    requires { InRow f.now slab spans.now alphas.now limit d j n }
-    ensures { Listed n (row_places f.now limit d j) places.old result places.new × (result ≤ n + 13) }
+fn list_row(lines: &Lines, limit: Limit, d: Way, j: u32, places: &mut [u32], n: u32) -> u32
+    requires { InRow lines.now.survey.floor.bytes.now limit d j n }
+    ensures { Listed n (row_places lines.now.survey.floor.bytes.now limit d j) places.old result places.new × (result ≤ n + 13) }
 {
-    let last = extent(limit, d, slab.bays).x;
+    let last = extent(limit, d, lines.survey.floor.slab.bays).x;
     let mut m = n;
-    let mut i: u32 = 0;
-    while i < last {
-        if broken_at(f, slab, spans, alphas, limit, d, i, j) {
-            note(
-                places,
-                m,
-                Place {
-                    limit: limit,
-                    way: d,
-                    i: i,
-                    j: j,
-                },
-            );
+    for i in 0..last {
+        if broken_at(lines, limit, d, i, j) {
+            let way = d;
+            note(places, m, Place { limit, way, i, j });
             m += 1;
         }
-        i += 1;
     }
     m
 }
 
-fn list_along(
-    f: &[u8],
-    slab: Slab,
-    spans: &[[u64; 13]; 2],
-    alphas: &[[u64; 13]; 2],
-    limit: Limit,
-    d: Way,
-    places: &mut [u32],
-    n: u32,
-) -> u32
-    requires { Along f.now slab spans.now alphas.now n }
-    ensures { Listed n (places_along f.now limit d) places.old result places.new × (result ≤ n + 169) }
+fn list_along(lines: &Lines, limit: Limit, d: Way, places: &mut [u32], n: u32) -> u32
+    requires { Along n }
+    ensures { Listed n (places_along lines.now.survey.floor.bytes.now limit d) places.old result places.new × (result ≤ n + 169) }
 {
-    let last = extent(limit, d, slab.bays).y;
+    let last = extent(limit, d, lines.survey.floor.slab.bays).y;
     let mut m = n;
-    let mut j: u32 = 0;
-    while j < last {
-        m = list_row(f, slab, spans, alphas, limit, d, j, places, m);
-        j += 1;
+    for j in 0..last {
+        m = list_row(lines, limit, d, j, places, m);
     }
     m
 }
 
-fn list_limit(
-    f: &[u8],
-    slab: Slab,
-    spans: &[[u64; 13]; 2],
-    alphas: &[[u64; 13]; 2],
-    limit: Limit,
-    places: &mut [u32],
-    n: u32,
-) -> u32
-    requires { OfLimit f.now slab spans.now alphas.now n }
-    ensures { Listed n (limit_places f.now limit) places.old result places.new × (result ≤ n + 338) }
+fn list_limit(lines: &Lines, limit: Limit, places: &mut [u32], n: u32) -> u32
+    requires { OfLimit n }
+    ensures { Listed n (limit_places lines.now.survey.floor.bytes.now limit) places.old result places.new × (result ≤ n + 338) }
 {
-    let m = list_along(f, slab, spans, alphas, limit, Way::X, places, n);
-    list_along(f, slab, spans, alphas, limit, Way::Y, places, m)
+    let m = list_along(lines, limit, Way::X, places, n);
+    list_along(lines, limit, Way::Y, places, m)
 }
 
 // All of them. A limit that is no part of the verdict v has none, and is not looked at.
-fn list_all(
-    f: &[u8],
-    slab: Slab,
-    spans: &[[u64; 13]; 2],
-    alphas: &[[u64; 13]; 2],
-    v: u32,
-    places: &mut [u32],
-) -> u32
-    requires { Judged f.now slab spans.now alphas.now v }
-    ensures { Listed 0 (places_of f.now) places.old result places.new × (result ≤ 2366) }
+// The verdict is a number, not a set of limits: C's answer, whose parts the clauses name.
+fn list_all(lines: &Lines, v: u32, places: &mut [u32]) -> u32
+    requires { Judged lines.now.survey.floor.bytes.now v }
+    ensures { Listed 0 (places_of lines.now.survey.floor.bytes.now) places.old result places.new × (result ≤ 2366) }
 {
     let mut n: u32 = 0;
-    let mut k: u32 = 0;
-    while k < 7 {
+    for k in 0..7 {
         let limit = limit_at(k);
         if v / number(limit) % 2 == 1 {
-            n = list_limit(f, slab, spans, alphas, limit, places, n);
+            n = list_limit(lines, limit, places, n);
         }
-        k += 1;
     }
     n
 }
 
 // Is there room for all of them in a slice of this length? They are counted only where it may be too short.
-fn has_room(
-    f: &[u8],
-    slab: Slab,
-    spans: &[[u64; 13]; 2],
-    alphas: &[[u64; 13]; 2],
-    v: u32,
-    length: usize,
-) -> bool
-    requires { Judged f.now slab spans.now alphas.now v }
-    ensures { result ≡ has_room f.now length }
+fn has_room(lines: &Lines, v: u32, length: usize) -> bool
+    requires { Judged lines.now.survey.floor.bytes.now v }
+    ensures { result ≡ has_room lines.now.survey.floor.bytes.now length }
 {
     if SUFFICES <= length {
         return true;
     }
     let mut none = [0u32; 1];
-    let n = list_all(f, slab, spans, alphas, v, &mut none);
+    let n = list_all(lines, v, &mut none);
     (n as usize) * PLACE <= length
 }
 
 // Of an accepted floor: nothing is written before there is room for all.
-fn list(f: &[u8], places: &mut [u32]) -> Answer
+fn list(f: &[u8], places: &mut [u32]) -> Result<u32, Refusal>
     requires { Accepted f.now }
-    ensures { Placed f.now places.old result places.new }
+    ensures { Placed f.now places.old (query_answer result) places.new }
 {
-    let slab = slab_of(f);
-    let s = spans(f, slab.bays);
-    let a = alphas(f, slab, &s);
-    let v = verdict::broken(f, slab, &s, &a);
-    if !has_room(f, slab, &s, &a, v, places.len()) {
-        return refused_query(25);
+    let lines = Lines::of(Survey::of(f));
+    let v = verdict::broken(&lines);
+    if !has_room(&lines, v, places.len()) {
+        return Err(Refusal::PlacesRoom);
     }
-    success(list_all(f, slab, &s, &a, v, places))
+    Ok(list_all(&lines, v, places))
 }
 
 // Every place where a limit is broken: how many there are, with four numbers for each in the slice.
-pub fn places(f: &[u8], places: &mut [u32]) -> Answer
-    ensures { Placed f.now places.old result places.new }
+pub fn places(f: &[u8], places: &mut [u32]) -> Result<u32, Refusal>
+    ensures { Placed f.now places.old (query_answer result) places.new }
 {
-    let number = floor::refusal::refusal(f);
-    if number != 0 {
-        return refused_query(number);
-    }
+    accept(f)?;
     list(f, places)
 }

@@ -30,13 +30,14 @@ use gandhrumil::{
 };
 use plan::fields::u32_at;
 use sheets::pair;
-use sheets::pieces::{Sent, write_rows};
+use sheets::pieces::{CutOff, write_rows};
 use sheets::read::read_full;
 use std::io;
 use std::io::{ErrorKind, Read, Write};
 use supports::SUPPORT;
 use tables::write::WIDTH;
 
+// There is no heap: what is read or printed stands in arrays of fixed size, of which a slice of as many as there are is handed on.
 const LONGEST_FLOOR: usize = 4096;
 
 // Eight records more than the largest floor has.
@@ -53,6 +54,8 @@ const LONGEST_PLACES: usize = 803 * 4;
 // Three schedule records more than the largest floor has, of 32 bytes each.
 const LONGEST_SCHEDULE: usize = 1875 * 32;
 
+// Input and output come as two, here and in figures: what reads takes the one, what prints the other, and a struct would be taken apart for each.
+
 // The next word of the input, 0 past its end.
 fn word<R: Read>(input: &mut R) -> io::Result<u32> {
     let mut bytes = [0u8; 4];
@@ -67,10 +70,8 @@ fn long<R: Read>(input: &mut R) -> io::Result<u64> {
 }
 
 fn read_numbers<R: Read>(input: &mut R, slice: &mut [u32]) -> io::Result<()> {
-    let mut i: usize = 0;
-    while i < slice.len() {
-        slice[i] = word(input)?;
-        i += 1;
+    for number in slice.iter_mut() {
+        *number = word(input)?;
     }
     Ok(())
 }
@@ -86,57 +87,18 @@ fn show_byte<W: Write>(out: &mut W, byte: u8) -> io::Result<()> {
 }
 
 fn show_bytes<W: Write>(out: &mut W, bytes: &[u8]) -> io::Result<()> {
-    let mut i: usize = 0;
-    while i < bytes.len() {
-        show_byte(out, bytes[i])?;
-        i += 1;
+    for byte in bytes {
+        show_byte(out, *byte)?;
     }
     Ok(())
 }
 
 // Numbers that were not taken whole end the program, as any other write that fails.
-fn taken(sent: Sent) -> io::Result<()> {
-    if sent.whole {
-        Ok(())
-    } else {
-        Err(io::Error::from(ErrorKind::WriteZero))
+fn taken(sent: Result<usize, CutOff>) -> io::Result<()> {
+    match sent {
+        Ok(_) => Ok(()),
+        Err(_) => Err(io::Error::from(ErrorKind::WriteZero)),
     }
-}
-
-fn show<W: Write>(out: &mut W, floor: &[u8], table: &[u32], governing: &[u32]) -> io::Result<()>
-    requires { Shown table.now governing.now }
-{
-    show_bytes(out, floor)?;
-    taken(write_rows(out, table, 1, table.len()))?;
-    taken(write_rows(out, governing, 1, governing.len()))
-}
-
-fn read_and_change<R: Read, W: Write>(
-    input: &mut R,
-    out: &mut W,
-    floor: &mut [u8],
-    table: &mut [u32],
-    governing: &mut [u32],
-    change: &mut [u8],
-) -> io::Result<()> {
-    read_full(input, change)?;
-    show_answer(out, gandhrumil_change(floor, table, governing, change))
-}
-
-fn change<R: Read, W: Write>(
-    input: &mut R,
-    out: &mut W,
-    floor: &mut [u8],
-    table: &mut [u32],
-    governing: &mut [u32],
-) -> io::Result<bool> {
-    let mut bytes = [0u8; LONGEST_CHANGE];
-    let n = word(input)? as usize;
-    if n > LONGEST_CHANGE {
-        return Ok(false);
-    }
-    read_and_change(input, out, floor, table, governing, &mut bytes[..n])?;
-    Ok(true)
 }
 
 fn read_and_list<R: Read, W: Write>(
@@ -152,6 +114,8 @@ fn read_and_list<R: Read, W: Write>(
     taken(write_rows(out, places, 1, places.len()))
 }
 
+// A length and its test open this and `schedule`, `change`, `with_table`, `with_floor` and `batch`. No function of all: the buffers differ in type
+// and size and so does what follows, which it would take as a closure; of the test alone, each would keep a `let .. else`.
 fn places<R: Read, W: Write>(input: &mut R, out: &mut W, floor: &[u8]) -> io::Result<bool> {
     let mut numbers = [0u32; LONGEST_PLACES];
     let n = word(input)? as usize;
@@ -183,73 +147,84 @@ fn schedule<R: Read, W: Write>(input: &mut R, out: &mut W, floor: &[u8]) -> io::
     Ok(true)
 }
 
-// Makes the next call, and answers whether there was one.
-fn call<R: Read, W: Write>(
-    input: &mut R,
-    out: &mut W,
-    floor: &mut [u8],
-    table: &mut [u32],
-    governing: &mut [u32],
-) -> io::Result<bool>
-    requires { Shown table.old governing.old }
-{
-    match word(input)? {
-        1 => show_answer(out, gandhrumil_open(floor, table, governing))?,
-        2 => return change(input, out, floor, table, governing),
-        3 => show_answer(out, gandhrumil_panel(floor, long(input)?, long(input)?))?,
-        4 => show_answer(
-            out,
-            gandhrumil_steel(
-                long(input)?,
-                long(input)?,
-                long(input)?,
-                long(input)?,
-                long(input)?,
-                long(input)?,
-            ),
-        )?,
-        5 => show(out, floor, table, governing)?,
-        6 => show_answer(out, gandhrumil_clear(floor))?,
-        7 => return places(input, out, floor),
-        8 => return schedule(input, out, floor),
-        _ => return Ok(false),
-    }
-    Ok(true)
+// What the calls of a batch are lent, with no more numbers than the buffers have room for.
+#[derive(Drop)]
+struct Lent<'a> {
+    floor: &'a mut [u8],
+    table: &'a mut [u32],
+    governing: &'a mut [u32],
+    ghost shown: { Shown table.now governing.now },
 }
 
-fn calls<R: Read, W: Write>(
-    input: &mut R,
-    out: &mut W,
-    floor: &mut [u8],
-    table: &mut [u32],
-    governing: &mut [u32],
-) -> io::Result<bool>
-    requires { Shown table.old governing.old }
-{
-    let mut left = word(input)?;
-    if left == 0 {
-        return Ok(false);
+impl Lent<'_> {
+    fn show<W: Write>(&self, out: &mut W) -> io::Result<()> {
+        show_bytes(out, self.floor)?;
+        taken(write_rows(out, self.table, 1, self.table.len()))?;
+        taken(write_rows(out, self.governing, 1, self.governing.len()))
     }
-    while left > 0 {
-        if !call(input, out, floor, table, governing)? {
+
+    fn read_and_change<R: Read, W: Write>(
+        &mut self,
+        input: &mut R,
+        out: &mut W,
+        change: &mut [u8],
+    ) -> io::Result<()> {
+        read_full(input, change)?;
+        let answer = gandhrumil_change(self.floor, self.table, self.governing, change);
+        show_answer(out, answer)
+    }
+
+    fn change<R: Read, W: Write>(&mut self, input: &mut R, out: &mut W) -> io::Result<bool> {
+        let mut bytes = [0u8; LONGEST_CHANGE];
+        let n = word(input)? as usize;
+        if n > LONGEST_CHANGE {
             return Ok(false);
         }
-        left -= 1;
+        self.read_and_change(input, out, &mut bytes[..n])?;
+        Ok(true)
     }
-    Ok(true)
-}
 
-fn with_governing<R: Read, W: Write>(
-    input: &mut R,
-    out: &mut W,
-    floor: &mut [u8],
-    table: &mut [u32],
-    governing: &mut [u32],
-) -> io::Result<bool>
-    requires { Shown table.old governing.old }
-{
-    read_numbers(input, governing)?;
-    calls(input, out, floor, table, governing)
+    // Makes the next call, and answers whether there was one. A number, not an enum: it is the input's format.
+    fn call<R: Read, W: Write>(&mut self, input: &mut R, out: &mut W) -> io::Result<bool> {
+        match word(input)? {
+            1 => show_answer(out, gandhrumil_open(self.floor, self.table, self.governing))?,
+            2 => return self.change(input, out),
+            3 => show_answer(
+                out,
+                gandhrumil_panel(self.floor, long(input)?, long(input)?),
+            )?,
+            4 => show_answer(
+                out,
+                gandhrumil_steel(
+                    long(input)?,
+                    long(input)?,
+                    long(input)?,
+                    long(input)?,
+                    long(input)?,
+                    long(input)?,
+                ),
+            )?,
+            5 => self.show(out)?,
+            6 => show_answer(out, gandhrumil_clear(self.floor))?,
+            7 => return places(input, out, self.floor),
+            8 => return schedule(input, out, self.floor),
+            _ => return Ok(false),
+        }
+        Ok(true)
+    }
+
+    fn calls<R: Read, W: Write>(&mut self, input: &mut R, out: &mut W) -> io::Result<bool> {
+        let n = word(input)?;
+        if n == 0 {
+            return Ok(false);
+        }
+        for _ in 0..n {
+            if !self.call(input, out)? {
+                return Ok(false);
+            }
+        }
+        Ok(true)
+    }
 }
 
 fn with_table<R: Read, W: Write>(
@@ -266,7 +241,13 @@ fn with_table<R: Read, W: Write>(
     if n > LONGEST_GOVERNING {
         return Ok(false);
     }
-    with_governing(input, out, floor, table, &mut governing[..n])
+    read_numbers(input, &mut governing[..n])?;
+    let mut lent = Lent {
+        floor,
+        table,
+        governing: &mut governing[..n],
+    };
+    lent.calls(input, out)
 }
 
 fn with_floor<R: Read, W: Write>(input: &mut R, out: &mut W, floor: &mut [u8]) -> io::Result<bool> {
@@ -289,12 +270,14 @@ fn batch<R: Read, W: Write>(input: &mut R, out: &mut W) -> io::Result<bool> {
     with_floor(input, out, &mut floor[..n])
 }
 
+// The loop is also that of crate figures: a function of both would take `batch` as a closure, and would save no line.
 fn main(rt: HostRuntime) -> io::Result<()> {
     let mut input = rt.stdin();
     let mut out = rt.stdout();
-    let mut turns = u64::MAX;
-    while turns > 0 && batch(&mut input, &mut out)? {
-        turns -= 1;
+    for _ in 0..u64::MAX {
+        if !batch(&mut input, &mut out)? {
+            break;
+        }
     }
     Ok(())
 }

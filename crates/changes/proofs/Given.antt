@@ -12,11 +12,10 @@ use Rattle.numbers.proofs.Chains.{answers, success, later, both_zero, went_on, â
 use Rattle.floor.specs.Refusal.{value_checks, values_refusal, refusal}
 use Rattle.floor.proofs.Meaning.{sound_floor, sound_values}
 use Rattle.plan.specs.Plan.{bays_of}
-use Rattle.changes.specs.declared.Ruling.{Ruling}
 use Rattle.changes.specs.Asked.{Placed}
 use Rattle.changes.specs.Change.{change_place, changed}
 use Rattle.changes.specs.Meaning.{TakenChange}
-use Rattle.changes.specs.Refusal.{change_checks, change_refusal, GivenChange, ruling_of, ruling}
+use Rattle.changes.specs.Refusal.{Ruling, change_checks, change_refusal, GivenChange, ruling_of, ruling}
 use Rattle.changes.proofs.Meaning.{says_change}
 use Rattle.changes.proofs.Keeps.{values_decide}
 

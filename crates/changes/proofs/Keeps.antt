@@ -14,7 +14,7 @@ use Rattle.plan.specs.Fields.{part_b, part_c, part_at}
 use Rattle.plan.specs.Plan.{bays_of, many, start}
 use Rattle.numbers.specs.Chains.{tried}
 use Rattle.floor.specs.Refusal.{floor_checks, values_refusal, refusal}
-use Rattle.floor.specs.Asked.{Complete}
+use Rattle.floor.specs.Asked.{Filed}
 use Rattle.floor.specs.Meaning.{Whole, HeadIs, First, Counted, AsListed}
 use Rattle.floor.proofs.Meaning.{says_whole, says_first, says_counted, says_listed, passes}
 use Rattle.changes.specs.Change.{change_kind, change_index, change_place, changed}
@@ -71,20 +71,18 @@ module _ (f c : List ℕ) (held : refusal f ≡ 0) (fit : Fitting f c) where
   listed : AsListed (changed f c)
   listed k i h = rw (start_kept f c held fit k) (each_listed k i (rw (many_kept f c held fit k) at h))
 
-  -- so 5 to 7 have what they ask, with the bays of the held floor
-  pub complete : {b : Bays} → Sized f b → Complete (changed f c) b
-  complete h =
+  -- so 5 to 7 have what they ask, and the bays of the held floor
+  pub filed : Filed (changed f c)
+  filed = record { first = first; counted = counted }
+
+  pub sized : {b : Bays} → Sized f b → Sized (changed f c) b
+  sized h =
       record {
-        sized =
-            record {
-              is = rw (bays_kept f c held fit X, bays_kept f c held fit Y) h.is;
-              x = rw (bays_kept f c held fit X) h.x;
-              y = rw (bays_kept f c held fit Y) h.y;
-              x_most = h.x_most;
-              y_most = h.y_most;
-            };
-        first = first;
-        counted = counted;
+        is = rw (bays_kept f c held fit X, bays_kept f c held fit Y) h.is;
+        x = rw (bays_kept f c held fit X) h.x;
+        y = rw (bays_kept f c held fit Y) h.y;
+        x_most = h.x_most;
+        y_most = h.y_most;
       }
 
   pub values_decide : refusal (changed f c) ≡ values_refusal (changed f c)

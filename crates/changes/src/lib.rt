@@ -4,35 +4,21 @@
 
 ghost use Rattle.std.specs.Prelude.{◌≡◌, ◌≤◌, ◌+◌, length};
 ghost use Rattle.records.specs.Asked.{Small};
-ghost use Rattle.plan.specs.Asked.{Sized};
+ghost use Rattle.answers.specs.Answers.{number_of};
 ghost use Rattle.floor.specs.Refusal.{values_refusal};
 ghost use Rattle.changes.specs.Asked.{Indexed, Placed};
 ghost use Rattle.changes.specs.Change.{has_record, change_ok, change_place, changed, stored};
-ghost use Rattle.changes.specs.Refusal.{ruling_of, ruling};
+ghost use Rattle.changes.specs.Refusal.{ruled, ruling};
 
+use answers::Refusal;
 use floor::refusal;
 use numbers::both;
 use plan::fields::{u16_at, u32_at};
-use plan::read::{Bays, bays_of};
+use plan::read::{Bays, Plan};
 use records::kinds::{changeable, count_of, start_of, unlisted_zero};
 
-// A change that was judged: the number it is refused with, or 0 and the record that it replaces.
-#[derive(Clone, Copy)]
-pub struct Ruling {
-    pub number: u32,
-    pub place: u32,
-}
-
-fn ruling_of(number: u32, place: u32) -> Ruling
-    ensures { result ≡ ruling_of number place }
-{
-    if number == 0 {
-        return Ruling { number, place };
-    }
-    Ruling { number, place: 0 }
-}
-
 // The kind is one that can change, and a floor of these bays has a record of that kind and index.
+// A kind is a number, not an enum, here and below: a change may hold any, and the clauses are of any.
 fn has_record(b: Bays, k: u32, i: u32) -> bool
     requires { Small b.x b.y }
     ensures { result ≡ has_record b k i }
@@ -64,45 +50,41 @@ fn change_place(b: Bays, c: &[u8]) -> u32
 }
 
 // The bytes of src stored from `at` on.
+// What it shares with `write_at` of crate tables, over numbers, is one call of the library's method, which is generic.
 pub fn store_at(dst: &mut [u8], at: usize, src: &[u8])
     requires { at + length src.now ≤ length dst.old }
     ensures { dst.new ≡ stored dst.old at src.now }
 {
-    let mut j: usize = 0;
-    while j < src.len() {
-        dst[at + j] = src[j];
-        j += 1;
-    }
+    dst[at..at + src.len()].copy_from_slice(src);
 }
 
-// 5 to 7 of the whole changed floor, judged in a copy.
-fn judge_copy(f: &[u8], b: Bays, place: u32, c: &[u8]) -> u32
-    requires sized { Sized f.now b }
-    requires placed { Placed f.now place c.now }
-    ensures { result ≡ values_refusal (changed f.now c.now) }
+// 5 to 7 of the whole changed floor, judged in a copy: a local array with room for any file (01, "Forms to follow in each place").
+fn judge_copy(plan: &Plan, place: u32, c: &[u8]) -> Result<(), Refusal>
+    requires { Placed plan.now.bytes.now place c.now }
+    ensures { number_of result ≡ values_refusal (changed plan.now.bytes.now c.now) }
 {
     let mut copy = [0u8; 3568];
-    let n = f.len();
-    store_at(&mut copy, 0, f);
+    let n = plan.bytes.len();
+    store_at(&mut copy, 0, plan.bytes);
     store_at(&mut copy, (place as usize) * 16, c);
-    refusal::values_refusal(&copy[..n], b)
+    refusal::accept_values(&Plan {
+        bytes: &copy[..n],
+        bays: plan.bays,
+    })
 }
 
-// 1 to 7 on the held floor, 9, then 5 to 7 on the changed floor.
-pub fn judge(f: &[u8], c: &[u8]) -> Ruling
-    ensures { result ≡ ruling f.now c.now }
+// The place of the record that the change replaces; 1 to 7 are tried on the held floor, 9, then 5 to 7 on the changed floor.
+pub fn judge(f: &[u8], c: &[u8]) -> Result<u32, Refusal>
+    ensures { ruled result ≡ ruling f.now c.now }
 {
-    let held = refusal::refusal(f);
-    let is_refused = held != 0;
-    if is_refused {
-        return ruling_of(held, 0);
+    refusal::accept(f)?;
+    let plan = Plan::of(f);
+    if !change_ok(plan.bays, c) {
+        return Err(Refusal::NoChange);
     }
-    let b = bays_of(f);
-    if !change_ok(b, c) {
-        return ruling_of(9, 0);
-    }
-    let place = change_place(b, c);
-    ruling_of(judge_copy(f, b, place, c), place)
+    let place = change_place(plan.bays, c);
+    judge_copy(&plan, place, c)?;
+    Ok(place)
 }
 
 // The record in its place, and nothing else.

@@ -1,11 +1,12 @@
 -- The answer to "is it clear?" is what 02 asks of it, and no other is: its number is the one that is given, and its value is 1 or 0 by the verdict.
 -- Assumes nothing.
 use Prim.Native.Nat.{ℕ}
-use mathlib.Core.Bool.{Bool}
+use mathlib.Core.Bool.{Bool, true, false}
 use mathlib.Core.List.{List}
 use mathlib.Core.Logic.{◌↔◌}
 use mathlib.Core.Path.{◌≡◌, refl, sym, ◌∙◌}
 use native.Mathlib.Omega.{arith}
+use mir.Val.{bool_byte}
 use Rattle.numbers.specs.Tests.{Says}
 use Rattle.numbers.proofs.Tests.{says_eq, by_test, by_says}
 use Rattle.numbers.proofs.Chains.{given_one}
@@ -15,6 +16,14 @@ use Rattle.limits.proofs.Meaning.{says_clear}
 use Rattle.answers.specs.declared.Answer.{Answer}
 use Rattle.answers.proofs.Answers.{same_answer}
 use Rattle.clear.specs.Answers.{yes_no, clear_of, AcceptedAndClear, ClearAnswer}
+
+-- a truth value as a number
+pub yes_byte : {a b : Bool} → a ≡ b → bool_byte a ≡ yes_no b
+yes_byte {a} e = rw (← e) (plain a)
+  where
+    plain : (b : Bool) → bool_byte b ≡ yes_no b
+    plain true = refl
+    plain false = refl
 
 -- 1 says what the test says, and 0 the contrary
 yes_says : {b : Bool} {P Q : Type 0} → Says b P → (P → Q) → (Q → P) → ((yes_no b ≡ 1) ↔ Q) × ((yes_no b ≡ 0) ↔ ¬ Q)

@@ -22,8 +22,7 @@ use Rattle.floor.proofs.Fair.{fair}
 use Rattle.lines.specs.declared.slab.Slab.{Slab}
 use Rattle.lines.specs.Lines.{is_everywhere}
 use Rattle.lines.specs.Slabs.{slab_of}
-use Rattle.lines.specs.Rows.{AllSpans}
-use Rattle.lines.specs.Asked.{PanelAtHand}
+use Rattle.lines.specs.Asked.{InPanel}
 use Rattle.verdict.proofs.Sum.{few_is, heavy_is}
 use Rattle.limits.specs.Limits.{some_pair, some_panel, too_few, few, slender_panel, uneven, astray, overloaded, heavy, unequal_panel, unbalanced, thin_panel, sum_of, verdict, is_clear}
 use Rattle.clear.specs.Order.{first_panel_broken, broken_without_alpha, panels_broken}
@@ -78,10 +77,8 @@ module _ (f : List ℕ) {slab : Slab} (shared : slab ≡ slab_of f) {a b r : Boo
 -- ---- the first panel
 
 module _ (f : List ℕ) (e : refusal f ≡ 0) where
-  pub first_at : {slab : Slab} {s : List (List ℕ)} → slab ≡ slab_of f → AllSpans f s → PanelAtHand f slab s 0 0
-  first_at shared spans =
-      let b = (fair f e).bays_in in
-      record { surveyed = record { accepted = e; shared = shared; spans = spans }; x_bay = omega (arith, b X); y_bay = omega (arith, b Y) }
+  pub first_at : InPanel f 0 0
+  first_at = let b = (fair f e).bays_in in record { x_bay = omega (arith, b X); y_bay = omega (arith, b Y) }
 
   -- some panel has what the first one has
   some_first : (p : ℕ → ℕ → Bool) → p 0 0 ≡ true → some_panel f p ≡ true

@@ -3,20 +3,21 @@
 // Some number of one list exceeds k times some number of another exactly where the largest of the one exceeds k times the least of the other.
 #![tactic(auto)]
 
-ghost use Rattle.std.specs.Prelude.{◌≡◌, ◌*◌, ◌≤◌, get_or};
-ghost use Rattle.lines.specs.Asked.{Surveyed, Ready, PanelAtHand, AtPanel};
+ghost use Rattle.std.specs.Prelude.{◌≡◌, ◌*◌, ◌≤◌, get_or, length, take};
+ghost use Rattle.lines.specs.Asked.{InPanel, StiffPanel};
 ghost use Rattle.limits.specs.Limits.{some_panel, slender_panel, unbalanced_panel, unbalanced};
 ghost use Rattle.numbers.specs.Extremes.{apart};
 ghost use Rattle.extremes.specs.Extremes.{ends_of, ends_apart, apart_some, share_at, Shares};
-ghost use Rattle.extremes.specs.Asked.{Values, Value, EndsIn, Ratio, Share, BaySharing, Sharing};
+ghost use Rattle.extremes.specs.Asked.{Values, Value, EndsIn, Ratio, Share, BaySharing};
 
 use lines::line::{X, Y, pair_alpha};
 use lines::panel::is_everywhere;
-use lines::slab::Slab;
-use numbers::{either, larger, smaller};
-use plan::ways::Way;
+use lines::survey::{Lines, Survey};
+use numbers::either;
+use plan::ways::{Way, across};
 
 // 2: "longer span > 2·shorter"; 32: "p > 5q or q > 5p".
+// Plain numbers: that k is small (`Ratio`) matters only where it is multiplied, and a type of k would say no more.
 const TWICE: u64 = 2;
 
 const FIVE_TIMES: u64 = 5;
@@ -28,18 +29,24 @@ struct Ends {
     most: u64,
 }
 
-// Of the first n.
-fn ends_of(a: &[u64; 13], n: u32) -> Ends
-    requires { Values a.now n }
-    ensures { result ≡ ends_of n (λ i. get_or a.now i 0) }
+// The n that a row has; past them it has zeros. A row and its number, which is the floor's, become a slice here.
+fn first(row: &[u64; 13], n: u32) -> &[u64]
+    requires { Values row.now n }
+    ensures { (result.now ≡ take n row.now) × (length result.now ≡ n) }
 {
-    let mut least = a[0];
+    &row[..n as usize]
+}
+
+// `Values` is asked, here, above and in `apart`, and not kept in a type, which would live for this one call.
+fn ends_of(values: &[u64]) -> Ends
+    requires { Values values.now (length values.now) }
+    ensures { result ≡ ends_of (length values.now) (λ i. get_or values.now i 0) }
+{
+    let mut least = values[0];
     let mut most: u64 = 0;
-    let mut i: u32 = 0;
-    while i < n {
-        least = smaller(least, a[i as usize]);
-        most = larger(most, a[i as usize]);
-        i += 1;
+    for v in values {
+        least = least.min(*v);
+        most = most.max(*v);
     }
     Ends { least, most }
 }
@@ -64,32 +71,34 @@ fn two_apart(x: u64, y: u64, k: u64) -> bool
     ends_apart(Ends { least: x, most: x }, Ends { least: y, most: y }, k)
 }
 
-// Is there a pair, one of a's first n and one of b's first m, in which one exceeds k times the other?
-fn apart(a: &[u64; 13], n: u32, b: &[u64; 13], m: u32, k: u64) -> bool
-    requires a_in { Values a.now n }
-    requires b_in { Values b.now m }
+// Is there a pair, one of a's values and one of b's, in which one exceeds k times the other?
+fn apart(a: &[u64], b: &[u64], k: u64) -> bool
+    requires a_in { Values a.now (length a.now) }
+    requires b_in { Values b.now (length b.now) }
     requires ratio { Ratio k }
-    ensures { result ≡ apart_some k a.now n b.now m }
+    ensures { result ≡ apart_some k a.now (length a.now) b.now (length b.now) }
 {
-    ends_apart(ends_of(a, n), ends_of(b, m), k)
+    ends_apart(ends_of(a), ends_of(b), k)
 }
 
 // 2
-pub fn slender(f: &[u8], slab: Slab, spans: &[[u64; 13]; 2]) -> bool
-    requires { Surveyed f.now slab spans.now }
-    ensures { result ≡ some_panel f.now (slender_panel f.now) }
+pub fn slender(survey: &Survey) -> bool
+    ensures { result ≡ some_panel survey.now.floor.bytes.now (slender_panel survey.now.floor.bytes.now) }
 {
-    apart(&spans[X], slab.bays.x, &spans[Y], slab.bays.y, TWICE)
+    let bays = survey.floor.slab.bays;
+    let x = survey.spans_along(Way::X);
+    let y = survey.spans_along(Way::Y);
+    apart(first(x, bays.x), first(y, bays.y), TWICE)
 }
 
 // 2, of one panel.
-pub fn slender_at(f: &[u8], slab: Slab, spans: &[[u64; 13]; 2], i: u32, j: u32) -> bool
-    requires { PanelAtHand f.now slab spans.now i j }
-    ensures { result ≡ slender_panel f.now i j }
+pub fn slender_at(survey: &Survey, i: u32, j: u32) -> bool
+    requires { InPanel survey.now.floor.bytes.now i j }
+    ensures { result ≡ slender_panel survey.now.floor.bytes.now i j }
 {
-    let k = i as usize;
-    let m = j as usize;
-    two_apart(spans[X][k], spans[Y][m], TWICE)
+    let x = survey.spans_along(Way::X);
+    let y = survey.spans_along(Way::Y);
+    two_apart(x[i as usize], y[j as usize], TWICE)
 }
 
 // p or q of one bay.
@@ -100,7 +109,7 @@ fn share(pair: u64, span: u64) -> u64
     pair * (span * span)
 }
 
-// Of bay k, from α of the lines on either side of it.
+// Of bay k, from α of the lines on either side of it. Two arrays, not one of pairs: there is one line more than there are bays.
 fn share_at(a: &[u64; 13], s: &[u64; 13], k: u32) -> u64
     requires { BaySharing a.now s.now k }
     ensures { (result ≡ share_at a.now s.now k) × (result ≤ 57600000000000000) }
@@ -109,45 +118,36 @@ fn share_at(a: &[u64; 13], s: &[u64; 13], k: u32) -> u64
     share(pair_alpha(a, k), s[i])
 }
 
-// Of each of the n bays across the lines along d: p where the lines run along x, q where they run along y.
-fn shares(f: &[u8], d: Way, a: &[u64; 13], s: &[u64; 13], n: u32) -> [u64; 13]
-    requires { Sharing f.now d a.now s.now n }
-    ensures { Shares f.now d result }
+// Of each of the bays across the lines along d: p where the lines run along x, q where they run along y.
+fn shares(lines: &Lines, d: Way) -> [u64; 13]
+    ensures { Shares lines.now.survey.floor.bytes.now d result }
 {
+    let floor = lines.survey.floor;
+    let a = lines.alphas_along(d);
+    let s = lines.survey.spans_along(across(d));
     let mut p = [0u64; 13];
-    let mut k: u32 = 0;
-    while k < n {
+    for k in 0..floor.plan().last_line(d) {
         p[k as usize] = share_at(a, s, k);
-        k += 1;
     }
     p
 }
 
 // 32
-pub fn unbalanced(f: &[u8], slab: Slab, spans: &[[u64; 13]; 2], alphas: &[[u64; 13]; 2]) -> bool
-    requires { Ready f.now slab spans.now alphas.now }
-    ensures { result ≡ unbalanced f.now }
+pub fn unbalanced(lines: &Lines) -> bool
+    ensures { result ≡ unbalanced lines.now.survey.floor.bytes.now }
 {
-    let layout = slab.layout;
-    let p = shares(f, Way::X, &alphas[X], &spans[Y], slab.bays.y);
-    let q = shares(f, Way::Y, &alphas[Y], &spans[X], slab.bays.x);
-    is_everywhere(layout) && apart(&q, slab.bays.x, &p, slab.bays.y, FIVE_TIMES)
+    let slab = lines.survey.floor.slab;
+    let p = shares(lines, Way::X);
+    let q = shares(lines, Way::Y);
+    is_everywhere(slab.layout) && apart(first(&q, slab.bays.x), first(&p, slab.bays.y), FIVE_TIMES)
 }
 
-// 32, of one panel with α of its four lines.
-pub fn unequal_at(
-    f: &[u8],
-    slab: Slab,
-    spans: &[[u64; 13]; 2],
-    alphas: &[[u64; 13]; 2],
-    i: u32,
-    j: u32,
-) -> bool
-    requires { AtPanel f.now slab spans.now alphas.now i j }
-    ensures { result ≡ unbalanced_panel f.now i j }
+// 32, of one panel with α of its four lines. Not of a `Lines`, which would need α of every line.
+pub fn unequal_at(survey: &Survey, alphas: &[[u64; 13]; 2], i: u32, j: u32) -> bool
+    requires { StiffPanel survey.now.floor.bytes.now alphas.now i j }
+    ensures { result ≡ unbalanced_panel survey.now.floor.bytes.now i j }
 {
-    let layout = slab.layout;
-    let p = share_at(&alphas[X], &spans[Y], j);
-    let q = share_at(&alphas[Y], &spans[X], i);
-    is_everywhere(layout) && two_apart(q, p, FIVE_TIMES)
+    let p = share_at(&alphas[X], survey.spans_along(Way::Y), j);
+    let q = share_at(&alphas[Y], survey.spans_along(Way::X), i);
+    is_everywhere(survey.floor.slab.layout) && two_apart(q, p, FIVE_TIMES)
 }

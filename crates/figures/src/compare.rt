@@ -4,7 +4,7 @@ ghost use Rattle.std.specs.Io.KnownBytes.{Appends};
 ghost use Rattle.figures.specs.Comparison.{off_by, within};
 ghost use Rattle.figures.specs.Lines.{number_text, word_text, figure_line};
 
-use numbers::{larger, smaller};
+use numbers::rounded_up;
 use std::io;
 use std::io::Write;
 
@@ -14,9 +14,9 @@ fn compare(theirs: u32, ours: u32) -> u64
 {
     let a = theirs as u64;
     let b = ours as u64;
-    let apart = larger(a, b) - smaller(a, b);
-    let whole = larger(a, 1);
-    (10000 * apart + (whole - 1)) / whole
+    let apart = a.max(b) - a.min(b);
+    let whole = a.max(1);
+    rounded_up(10000 * apart, whole)
 }
 
 fn is_within(off: u64) -> bool
@@ -31,6 +31,7 @@ fn show_number<W: Write>(out: &mut W, n: u64) -> io::Result<()>
     write!(out, "{n} ")
 }
 
+// Two fixed texts, in which `write!` would have nothing to fill in.
 fn show_word<W: Write>(out: &mut W, within: bool) -> io::Result<()>
     ensures { OnOk result (Appends (W.contents out.old) (W.contents out.new) (word_text within)) }
 {
@@ -42,6 +43,7 @@ fn show_word<W: Write>(out: &mut W, within: bool) -> io::Result<()>
 }
 
 // A line: the figure's number in docs/FIGURES.md, theirs, ours, the difference, and whether it is within one percent.
+// Number and printed figure stand as two literals at each call: a struct of them would only make the calls longer.
 pub fn figure<W: Write>(out: &mut W, number: u32, theirs: u32, ours: u32) -> io::Result<()>
     ensures { OnOk result (Appends (W.contents out.old) (W.contents out.new) (figure_line number theirs ours)) }
 {
@@ -57,5 +59,5 @@ pub fn figure<W: Write>(out: &mut W, number: u32, theirs: u32, ours: u32) -> io:
 pub fn formula<W: Write>(out: &mut W, number: u32, theirs: u32, ours: u64) -> io::Result<()>
     ensures { OnOk result (Appends (W.contents out.old) (W.contents out.new) (figure_line number theirs (min ours 4294967295))) }
 {
-    figure(out, number, theirs, smaller(ours, 4294967295) as u32)
+    figure(out, number, theirs, ours.min(4294967295) as u32)
 }

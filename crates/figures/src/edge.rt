@@ -1,4 +1,5 @@
 // The widths of a frame on an outer line: the span inside it, the column across it.
+// Span and column come as two, here and for α, and their ranges are asked, as of the functions of stiffness that they go to.
 ghost use Rattle.std.specs.Prelude.{◌≡◌, true, ◌≤◌};
 ghost use Rattle.stiffness.specs.Asked.{Span, Column, Frame};
 ghost use Rattle.stiffness.specs.Lines.{frame_width};

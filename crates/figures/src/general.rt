@@ -13,7 +13,8 @@ use stiffness::section::{Section, edge_torsion};
 use strips::span::{clear_length, span_ratio, static_moment, torsion_ratio};
 use strips::strip::{between, inner_negative, outer_negative};
 
-// T of the outer beams B5, across the frame, and B1.
+// T of the outer beams B5, across the frame, and B1. By two names, and that of beams.rt by a third, as the documents name
+// their beams: with the depth as a parameter, each call would repeat it.
 fn b5() -> u64
     ensures { result ≤ 440000000000000 }
 {

@@ -23,14 +23,15 @@ use sheets::read::read_full;
 use std::io;
 use std::io::{Read, Write};
 
-// The largest floor, 12 by 12 bays.
+// The largest floor, 12 by 12 bays. There is no heap: a floor stands in an array of this size, of which a slice of its own length is handed on.
 const LONGEST_FLOOR: usize = 3568;
 
 const LARGEST_TABLE: usize = 4992;
 
 const LARGEST_GOVERNING: usize = 1690;
 
-// What is asked of an opened floor; 0 past its table.
+// What is asked of an opened floor; 0 past its table. A number, not an enum: it is the input's format.
+// Answer and table come as two, here and below, as opening gives the one and fills the other.
 fn told(answer: Answer, table: &[u32], asked: usize) -> u32 {
     if asked == 0 {
         return answer.refusal;
@@ -63,10 +64,8 @@ fn ask_all<R: Read, W: Write>(
     table: &[u32],
     questions: u32,
 ) -> io::Result<()> {
-    let mut i: u32 = 0;
-    while i < questions {
+    for _ in 0..questions {
         ask(input, out, answer, table)?;
-        i += 1;
     }
     Ok(())
 }
@@ -80,7 +79,7 @@ fn with_floor<R: Read, W: Write>(
     let mut table = [0u32; LARGEST_TABLE];
     let mut governing = [0u32; LARGEST_GOVERNING];
     read_full(input, floor)?;
-    let answer = moments::open(floor, &mut table, &mut governing);
+    let answer = Answer::of_verdict(moments::open(floor, &mut table, &mut governing));
     ask_all(input, out, answer, &table, questions)
 }
 
@@ -109,13 +108,15 @@ fn formulas<W: Write>(out: &mut W) -> io::Result<()> {
     general::all(out)
 }
 
+// The loop is also that of crate calls: see there.
 fn main(rt: HostRuntime) -> io::Result<()> {
     let mut input = rt.stdin();
     let mut out = rt.stdout();
     formulas(&mut out)?;
-    let mut turns = u64::MAX;
-    while turns > 0 && one(&mut input, &mut out)? {
-        turns -= 1;
+    for _ in 0..u64::MAX {
+        if !one(&mut input, &mut out)? {
+            break;
+        }
     }
     Ok(())
 }

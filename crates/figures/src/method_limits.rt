@@ -3,7 +3,6 @@ ghost use Rattle.figures.specs.Ranges.{Sums};
 
 use crate::alphas::{inner_alpha, outer_alpha};
 use crate::compare::formula;
-use numbers::larger;
 use std::io;
 use std::io::Write;
 use stiffness::section::Section;
@@ -13,7 +12,7 @@ use stiffness::section::Section;
 pub fn unlikeness(ax: u64, y: u64, ay: u64, x: u64) -> u64
     requires { Sums ax y ay x }
 {
-    10000 * (ax * (y * y)) / larger(ay * (x * x), 1)
+    10000 * (ax * (y * y)) / (ay * (x * x)).max(1)
 }
 
 // α of the outer beams B1 and B3 and the inner ones B2 and B4, on a slab of 165, and p/q of the panels 1 to 4.

@@ -25,7 +25,7 @@ use Rattle.plan.proofs.Directions.{span_count, line_count}
 use Rattle.plan.specs.Plan.{bays, many, value, thickness, column, side, span, last_line, beam_width, beam_depth, offset}
 use Rattle.floor.specs.Refusal.{refusal}
 use Rattle.floor.specs.Meaning.{First, Counted}
-use Rattle.layouts.specs.Asked.{Allowed}
+use Rattle.layouts.specs.Asked.{Allowed, Regular}
 use Rattle.layouts.specs.Meaning.{Beamed, LayoutAllowed, BeamsDeep}
 use Rattle.floor.specs.Fair.{Fair}
 use Rattle.floor.proofs.Meaning.{first_bays, passes}
@@ -116,6 +116,10 @@ module _ (f : List ℕ) (e : refusal f ≡ 0) where
   -- for crates above, which have the bays at hand
   pub laid_out : {b : Bays} → Sized f b → Allowed f b
   laid_out h = record { lined = record { sized = h; bay = λ d. (bays_range d).0 }; allowed = beams.0 }
+
+  -- and for those that have a plan
+  pub regular : Regular f
+  regular = record { bayed = record { bay = λ d. (bays_range d).0 }; allowed = beams.0 }
 
   counted : Counted f
   counted = (passes f e).counted

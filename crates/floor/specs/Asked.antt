@@ -21,3 +21,8 @@ pub record Complete (f : List ℕ) (b : Bays) : Type 0 where
   pub sized : Sized f b
   pub first : First f
   pub counted : Counted f
+
+-- the same of the file alone, for a plan, which has its bays
+pub record Filed (f : List ℕ) : Type 0 where
+  pub first : First f
+  pub counted : Counted f

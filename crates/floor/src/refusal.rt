@@ -1,18 +1,22 @@
 // Refusals 1 to 7 of a floor file, in the order tried.
-ghost use Rattle.std.specs.Prelude.{◌≡◌};
-ghost use Rattle.plan.specs.Asked.{InFile, Sized};
-ghost use Rattle.floor.specs.Asked.{Run, Complete};
-ghost use Rattle.records.specs.Kinds.{offset_kind};
+// A kind k is a number, not an enum: a file may hold any, and `head_is`, `record_ok` and `kind_ok` of specs/ are of any.
+ghost use Rattle.std.specs.Prelude.{◌≡◌, ◌≤◌};
+ghost use Rattle.plan.specs.Asked.{InFile};
+ghost use Rattle.floor.specs.Asked.{Run, Filed};
+ghost use Rattle.plan.specs.Plan.{start, many};
 ghost use Rattle.floor.specs.declared.refusal.Check.TheVariants.{Listed, Ranged};
 ghost use Rattle.floor.specs.Refusal.{length_ok, head_is, first_ok, count_ok, record_ok, kind_ok, every_record, values_refusal, refusal};
+ghost use Rattle.answers.specs.Answers.{number_of};
 
+use answers::Refusal;
 use layouts::{Rule, beams_ok, kept};
 use numbers::both;
 use plan::fields::{A, B, C, index_at, kind_at, part_at};
-use plan::read::{Bays, bays_of};
+use plan::read::Plan;
 use records::kinds::{OFFSETS, SIZES, count_of, start_of};
 
-// What is checked in every record before the next check is tried.
+// What is checked in every record before the next check is tried. An enum, not a closure: the refusals and their theorems name each check
+// (`every_record f Listed`).
 #[derive(Clone, Copy)]
 pub enum Check {
     Listed,
@@ -42,12 +46,11 @@ fn first_ok(f: &[u8]) -> bool
     )
 }
 
-fn count_ok(f: &[u8], b: Bays) -> bool
-    requires { Sized f.now b }
-    ensures { result ≡ count_ok f.now }
+fn count_ok(plan: &Plan) -> bool
+    ensures { result ≡ count_ok plan.now.bytes.now }
 {
-    let n = records::kinds::total(b.x, b.y);
-    f.len() == (n as usize) * 16
+    let n = records::kinds::total(plan.bays.x, plan.bays.y);
+    plan.bytes.len() == (n as usize) * 16
 }
 
 fn listed(f: &[u8], k: u32, i: u32, q: u32) -> bool
@@ -77,89 +80,71 @@ fn record_ok(f: &[u8], check: Check, k: u32, i: u32, q: u32) -> bool
     }
 }
 
+// The n records of a kind, from record `from` on. Numbers, not a slice of the file: `kind_ok` of specs/ counts records from the file's start.
 fn kind_ok(f: &[u8], check: Check, k: u32, from: u32, n: u32) -> bool
     requires { Run f.now from n }
     ensures { result ≡ kind_ok f.now check k from n }
 {
-    let mut i: u32 = 0;
-    while i < n {
-        if !record_ok(f, check, k, i, from + i) {
-            return false;
-        }
-        i += 1;
-    }
-    true
+    (0..n).all(|i| record_ok(f, check, k, i, from + i))
 }
 
-// The offsets, which are most of the records: here the compiler knows the kind, so that no turn of the loop has to tell kinds apart.
-fn offsets_ok(f: &[u8], check: Check, from: u32, n: u32) -> bool
-    requires { Run f.now from n }
-    ensures { result ≡ kind_ok f.now check offset_kind from n }
+// All records of a kind.
+fn all_of_kind(plan: &Plan, check: Check, k: u32) -> bool
+    requires filed { Filed plan.now.bytes.now }
+    requires kind { k ≤ 9 }
+    ensures { result ≡ kind_ok plan.now.bytes.now check k (start plan.now.bytes.now k) (many plan.now.bytes.now k) }
 {
-    let mut i: u32 = 0;
-    while i < n {
-        if !record_ok(f, check, OFFSETS, i, from + i) {
-            return false;
-        }
-        i += 1;
-    }
-    true
-}
-
-fn every_record(f: &[u8], b: Bays, check: Check) -> bool
-    requires { Complete f.now b }
-    ensures { result ≡ every_record f.now check }
-{
-    let nx = b.x;
-    let ny = b.y;
-    let mut k: u32 = 0;
-    while k < OFFSETS {
-        if !kind_ok(f, check, k, start_of(nx, ny, k), count_of(nx, ny, k)) {
-            return false;
-        }
-        k += 1;
-    }
-    offsets_ok(
-        f,
+    let b = plan.bays;
+    kind_ok(
+        plan.bytes,
         check,
-        start_of(nx, ny, OFFSETS),
-        count_of(nx, ny, OFFSETS),
+        k,
+        start_of(b.x, b.y, k),
+        count_of(b.x, b.y, k),
     )
 }
 
-// 5 to 7, which a change tries again on the changed floor.
-pub fn values_refusal(f: &[u8], b: Bays) -> u32
-    requires { Complete f.now b }
-    ensures { result ≡ values_refusal f.now }
+fn every_record(plan: &Plan, check: Check) -> bool
+    requires { Filed plan.now.bytes.now }
+    ensures { result ≡ every_record plan.now.bytes.now check }
 {
-    if !every_record(f, b, Check::Ranged) {
-        return 5;
-    }
-    if !kept(f, b, Rule::Columns) {
-        return 6;
-    }
-    if !beams_ok(f, b) {
-        return 7;
-    }
-    0
+    (0..=OFFSETS).all(|k| all_of_kind(plan, check, k))
 }
 
-// 1 to 7, or 0 for a floor that is accepted.
-pub fn refusal(f: &[u8]) -> u32
-    ensures { result ≡ refusal f.now }
+// 5 to 7, which a change tries again on the changed floor.
+// `Filed` is asked of a plan and no type of its own: it is shown in two places, after check 3 and of a changed copy.
+pub fn accept_values(plan: &Plan) -> Result<(), Refusal>
+    requires { Filed plan.now.bytes.now }
+    ensures { number_of result ≡ values_refusal plan.now.bytes.now }
+{
+    if !every_record(plan, Check::Ranged) {
+        return Err(Refusal::OutOfRange);
+    }
+    if !kept(plan, Rule::Columns) {
+        return Err(Refusal::ColumnTooWide);
+    }
+    if !beams_ok(plan) {
+        return Err(Refusal::BeamLayout);
+    }
+    Ok(())
+}
+
+// 1 to 7.
+pub fn accept(f: &[u8]) -> Result<(), Refusal>
+    ensures { number_of result ≡ refusal f.now }
 {
     if !length_ok(f) {
-        return 1;
+        return Err(Refusal::Length);
     }
     if !first_ok(f) {
-        return 2;
+        return Err(Refusal::FirstRecord);
     }
-    let b = bays_of(f);
-    if !count_ok(f, b) {
-        return 3;
+    let plan = Plan::of(f);
+    if !count_ok(&plan) {
+        return Err(Refusal::RecordCount);
     }
-    if !every_record(f, b, Check::Listed) {
-        return 4;
+    if !every_record(&plan, Check::Listed) {
+        return Err(Refusal::NotAsListed);
     }
-    values_refusal(f, b)
+    accept_values(&plan)
 }

@@ -15,18 +15,19 @@ use Rattle.plan.specs.Ways.{pick, across}
 use Rattle.plan.specs.Plan.{bays, last_line}
 use Rattle.plan.proofs.Reading.{bays_most}
 use Rattle.floor.proofs.Fair.{fair}
+use Rattle.floor.specs.Refusal.{refusal}
 use Rattle.lines.specs.declared.slab.Slab.{Slab}
+use Rattle.lines.specs.Slabs.{slab_of}
 use Rattle.lines.specs.Rows.{row_of}
 use Rattle.spans.proofs.AtHand.{along_of}
-use Rattle.tables.specs.declared.named.Spans.{Spans}
 use Rattle.tables.specs.Width.{record_width}
 use Rattle.tables.specs.Places.{line_first}
-use Rattle.tables.specs.Named.{named_spans, named_at}
+use Rattle.tables.specs.Named.{Spans, named_spans, named_at}
 use Rattle.tables.specs.Asked.{Naming}
 use Rattle.tables.proofs.Meaning.{to_most, from_most, line_written}
-use Rattle.frames.specs.Asked.{InTable, InFrames, AtLine, AtSpans}
+use Rattle.frames.specs.Asked.{Writable, InTable, InFrames, AtLine, AtSpans}
 use Rattle.frames.specs.Table.{record_at}
-use Rattle.frames.proofs.Spans.{standing_in}
+use Rattle.frames.proofs.Spans.{standing_in, standing_of}
 
 -- ---- one line
 
@@ -81,6 +82,10 @@ module _ (f t : List ℕ) (slab : Slab) (a : List ℕ) (kind index : ℕ) (d : W
   last_is q e = e ∙ rw q (along_of f h.standing.shared (across d))
 
 -- ---- both directions
+
+pub in_table : {f t : List ℕ} {slab : Slab} {a : List (List ℕ)} {kind index : ℕ} → refusal f ≡ 0 → slab ≡ slab_of f → Writable f t a kind index
+    → InTable f t slab a kind index
+in_table accepted shared h = record { standing = standing_of accepted shared h.stands; alphas = h.alphas; listed = h.listed }
 
 pub in_frames : (f t : List ℕ) (slab : Slab) (a : List (List ℕ)) {kind index : ℕ} → InTable f t slab a kind index
     → (d : Way) (u : List ℕ) → length u ≡ length t → InFrames f u slab (row_of a d) kind index d

@@ -11,7 +11,9 @@ use Rattle.plan.specs.Ways.{across}
 use Rattle.plan.specs.Plan.{bays, span}
 use Rattle.plan.proofs.Reading.{bays_most}
 use Rattle.floor.proofs.Fair.{fair}
+use Rattle.floor.specs.Refusal.{refusal}
 use Rattle.lines.specs.declared.slab.Slab.{Slab}
+use Rattle.lines.specs.Slabs.{slab_of}
 use Rattle.spans.specs.declared.view.LineView.{LineView}
 use Rattle.spans.specs.declared.view.View.{View}
 use Rattle.spans.specs.declared.work.LineWork.{LineWork}
@@ -22,13 +24,13 @@ use Rattle.spans.specs.Asked.{Sides, SlabbedSpan, WorkableSpan}
 use Rattle.lines.proofs.Slabs.{sized_of}
 use Rattle.spans.proofs.AtHand.{alpha_is}
 use Rattle.spans.proofs.Clear.{workable}
-use Rattle.tables.specs.declared.named.Spans.{Spans}
+use Rattle.tables.specs.Named.{Spans}
 use Rattle.tables.specs.Width.{record_width}
 use Rattle.tables.specs.Places.{Place, Inside, place_of, line_first_in, line_first}
 use Rattle.tables.proofs.Numbered.{bayed, line_starts, number_place, number_below, place_inside}
 use Rattle.tables.proofs.Runs.{next_one}
 use Rattle.tables.specs.Asked.{OnLine}
-use Rattle.frames.specs.Asked.{Standing, AtSpans, AtSpan}
+use Rattle.frames.specs.Asked.{Standing, Stands, AtSpans, AtSpan}
 use Rattle.frames.specs.Table.{view_at, record_at}
 
 -- what a view of a span is made of
@@ -63,6 +65,10 @@ module _ (f t : List ℕ) (slab : Slab) (line : LineView) (work : LineWork) (d :
 pub standing_in : (f t : List ℕ) (slab : Slab) → Standing f t slab → (u : List ℕ) → length u ≡ length t → Standing f u slab
 standing_in f t slab h u e =
     record { accepted = h.accepted; clear = h.clear; shared = h.shared; table = record { room = omega (arith, h.table.room) } }
+
+-- what a floor's type says, with what else is asked
+pub standing_of : {f t : List ℕ} {slab : Slab} → refusal f ≡ 0 → slab ≡ slab_of f → Stands f t → Standing f t slab
+standing_of accepted shared h = record { accepted = accepted; clear = h.clear; shared = shared; table = h.table }
 
 -- ---- the spans of a line
 

@@ -12,7 +12,7 @@ use Rattle.spans.specs.declared.view.LineView.{LineView}
 use Rattle.spans.specs.declared.work.LineWork.{LineWork}
 use Rattle.spans.specs.Views.{line_view}
 use Rattle.spans.specs.Works.{alpha_of, line_work}
-use Rattle.tables.specs.declared.named.Spans.{Spans}
+use Rattle.tables.specs.Named.{Spans}
 use Rattle.tables.specs.Places.{record_count, place_of}
 use Rattle.tables.specs.Width.{record_width}
 use Rattle.tables.specs.Asked.{Room}
@@ -68,3 +68,20 @@ pub record AtSpan (f t : List ℕ) (slab : Slab) (line : LineView) (work : LineW
   pub span_is : (place_of f k).span ≡ s
   pub line_is : line ≡ line_view f d (place_of f k).line
   pub work_is : work ≡ line_work line (alpha_of line slab.t)
+
+-- of a floor that its type says is accepted: its moments stand, and a table has room for them
+pub record Stands (f t : List ℕ) : Type 0 where
+  pub clear : verdict f ≡ 0
+  pub table : Room (record_count f) t
+
+-- the floor has a record of this kind and index, and α of all its lines is at hand
+pub record Writable (f t : List ℕ) (a : List (List ℕ)) (kind index : ℕ) : Type 0 where
+  pub stands : Stands f t
+  pub alphas : AllAlphas f a
+  pub listed : Listed f kind index
+
+-- the table has record k
+pub record Held (f t : List ℕ) (k : ℕ) : Type 0 where
+  pub stands : Stands f t
+  pub below : k < record_count f
+  pub holds : (n : ℕ) → n < record_width → get_or t (k * record_width + n) 0 ≡ get_or (record_at f k) n 0

@@ -8,116 +8,89 @@ ghost use Rattle.numbers.specs.Records.{put, written_from, every};
 ghost use Rattle.plan.specs.Plan.{bays, last_line};
 ghost use Rattle.tables.specs.Width.{record_width};
 ghost use Rattle.tables.specs.Places.{first_of, line_first};
-ghost use Rattle.tables.specs.Named.{named_at};
-ghost use Rattle.frames.specs.Asked.{InTable, InFrames, AtLine, AtSpans, AtSpan};
+ghost use Rattle.tables.specs.Named.{named_at, from_to};
+ghost use Rattle.frames.specs.Asked.{Writable, InFrames, AtLine, AtSpans, AtSpan};
 ghost use Rattle.frames.specs.Table.{record_at, named_written};
 
 use lines::line::{X, Y};
-use lines::slab::Slab;
+use lines::survey::Floor;
 use plan::read::along;
 use plan::ways::{Way, across};
 use spans::record::record;
 use spans::view::{LineView, line_view, span_view};
 use spans::work::{LineWork, line_work};
-use tables::named::{Spans, named_spans};
+use std::ops::Range;
+use tables::named::{Named, named_spans};
 use tables::places::line_first;
 use tables::write::write_record;
 
-// Record k, of span s along d, where what the spans of its line share is at hand.
+// Record k, of span s along d, where what the spans of its line share is at hand. Here and down to `write_lines` a clause says once more what the
+// floor's type says: its record stands in specs/, and is asked of the table as well.
 fn write_span(
-    f: &[u8],
+    floor: Floor,
     table: &mut [u32],
-    slab: Slab,
     line: LineView,
     work: LineWork,
     d: Way,
     s: u32,
     k: u32,
 )
-    requires { AtSpan f.now table.old slab line work d s k }
-    ensures { table.new ≡ put record_width k (record_at f.now k) table.old }
+    requires { AtSpan floor.bytes.now table.old floor.slab line work d s k }
+    ensures { table.new ≡ put record_width k (record_at floor.entry.bytes.now k) table.old }
 {
-    let v = span_view(f, slab, line, d, s);
+    let v = span_view(floor.bytes, floor.slab, line, d, s);
     write_record(table, k as usize, record(v, work));
 }
 
 // Some spans of line l along d. What they share is read and worked out once.
+// Floor, table, α of the lines along d, and d come one by one, here and below, as `AtSpans`, `AtLine` and `InFrames` of specs/ take them.
 fn write_spans(
-    f: &[u8],
+    floor: Floor,
     table: &mut [u32],
-    slab: Slab,
     alphas: &[u64; 13],
     d: Way,
     l: u32,
-    spans: Spans,
+    spans: Range<u32>,
 )
-    requires { AtSpans f.now table.old slab alphas.now d l spans }
-    ensures { table.new ≡ written_from record_width every (record_at f.now) (line_first f.now d l + spans.from) (spans.to - spans.from) table.old }
+    requires { AtSpans floor.bytes.now table.old floor.slab alphas.now d l (from_to spans.start spans.end) }
+    ensures { table.new ≡ written_from record_width every (record_at floor.entry.bytes.now) (line_first floor.entry.bytes.now d l + spans.start) (spans.end - spans.start) table.old }
 {
-    let first = line_first(slab.bays, d, l);
-    let line = line_view(f, slab, d, l);
-    let at = l as usize;
-    let work = line_work(line, alphas[at]);
-    let to = spans.to;
-    let mut s = spans.from;
-    while s < to {
-        write_span(f, table, slab, line, work, d, s, first + s);
-        s += 1;
+    let first = line_first(floor.slab.bays, d, l);
+    let line = line_view(floor.bytes, floor.slab, d, l);
+    let work = line_work(line, alphas[l as usize]);
+    for s in spans.start..spans.end {
+        write_span(floor, table, line, work, d, s, first + s);
     }
 }
 
 // A line with no span named is not even read.
-fn write_line(
-    f: &[u8],
-    table: &mut [u32],
-    slab: Slab,
-    alphas: &[u64; 13],
-    kind: u32,
-    index: u32,
-    d: Way,
-    l: u32,
-)
-    requires { AtLine f.now table.old slab alphas.now kind index d l }
-    ensures { table.new ≡ written_from record_width (named_at f.now kind index) (record_at f.now) (line_first f.now d l) (bays f.now d) table.old }
+fn write_line(floor: Floor, table: &mut [u32], alphas: &[u64; 13], named: Named, d: Way, l: u32)
+    requires { AtLine floor.bytes.now table.old floor.slab alphas.now named.kind named.index d l }
+    ensures { table.new ≡ written_from record_width (named_at floor.entry.bytes.now named.kind named.index) (record_at floor.entry.bytes.now) (line_first floor.entry.bytes.now d l) (bays floor.entry.bytes.now d) table.old }
 {
-    let spans = named_spans(kind, index, d, l, along(slab.bays, d));
-    if spans.from < spans.to {
-        write_spans(f, table, slab, alphas, d, l, spans);
+    let spans = named_spans(named, d, l, along(floor.slab.bays, d));
+    if spans.start < spans.end {
+        write_spans(floor, table, alphas, d, l, spans);
     }
 }
 
-fn write_lines(
-    f: &[u8],
-    table: &mut [u32],
-    slab: Slab,
-    alphas: &[u64; 13],
-    kind: u32,
-    index: u32,
-    d: Way,
-)
-    requires { InFrames f.now table.old slab alphas.now kind index d }
-    ensures { table.new ≡ written_from record_width (named_at f.now kind index) (record_at f.now) (first_of f.now d) ((last_line f.now d + 1) * bays f.now d) table.old }
+fn write_lines(floor: Floor, table: &mut [u32], alphas: &[u64; 13], named: Named, d: Way)
+    requires { InFrames floor.bytes.now table.old floor.slab alphas.now named.kind named.index d }
+    ensures { table.new ≡ written_from record_width (named_at floor.entry.bytes.now named.kind named.index) (record_at floor.entry.bytes.now) (first_of floor.entry.bytes.now d) ((last_line floor.entry.bytes.now d + 1) * bays floor.entry.bytes.now d) table.old }
 {
-    let last = along(slab.bays, across(d));
-    let mut l: u32 = 0;
-    while l <= last {
-        write_line(f, table, slab, alphas, kind, index, d, l);
-        l += 1;
+    let last = along(floor.slab.bays, across(d));
+    // Not an inclusive range, which tests a flag at each turn.
+    for l in 0..last + 1 {
+        write_line(floor, table, alphas, named, d, l);
     }
 }
 
-// The records that a change of this kind and index names, of a floor whose slab and α are at hand; every other number is as it was.
-pub fn write_named(
-    f: &[u8],
-    table: &mut [u32],
-    slab: Slab,
-    alphas: &[[u64; 13]; 2],
-    kind: u32,
-    index: u32,
-)
-    requires { InTable f.now table.old slab alphas.now kind index }
-    ensures { table.new ≡ named_written f.now kind index table.old }
+// The records that a change names, of a floor whose α is at hand; every other number is as it was.
+// Floor and α come as two, and not as `Lines`, which would ask for the spans as well.
+pub fn write_named(floor: Floor, table: &mut [u32], alphas: &[[u64; 13]; 2], named: Named)
+    requires { Writable floor.bytes.now table.old alphas.now named.kind named.index }
+    ensures { table.new ≡ named_written floor.entry.bytes.now named.kind named.index table.old }
 {
-    write_lines(f, table, slab, &alphas[X], kind, index, Way::X);
-    write_lines(f, table, slab, &alphas[Y], kind, index, Way::Y);
+    write_lines(floor, table, &alphas[X], named, Way::X);
+    write_lines(floor, table, &alphas[Y], named, Way::Y);
 }

@@ -7,7 +7,6 @@ use mathlib.Core.Path.{◌≡◌, refl, sym, ap, subst, ◌∙◌}
 use native.Mathlib.Omega.{arith}
 use lib.ListN.{get_or}
 use lib.Seq.{ext_get_or}
-use borrow.Author.Tests.{ne_eqb}
 use Rattle.numbers.proofs.Tests.{says_eq, by_test, by_says}
 use Rattle.floor.specs.Refusal.{refusal, Given}
 use Rattle.floor.proofs.Meaning.{given}
@@ -37,7 +36,7 @@ use Rattle.moments.specs.Opening.{open_refusal, Opened}
 use Rattle.moments.specs.Changing.{change_number, Changed}
 use Rattle.moments.specs.Meaning.{GivenOpening, GivenChanging, Supported, Agrees, LentOf, LentNamed, OpeningSays, ChangeSays}
 use Rattle.moments.specs.Mornings.{Morning, standing}
-use Rattle.moments.proofs.Room.{open_parts, open_whole, opening_number, given_opening, given_changing}
+use Rattle.moments.proofs.Room.{open_parts, open_whole, opening_stands, given_opening, given_changing}
 use Rattle.moments.proofs.Meaning.{earned, lent_of, lent_of_one, opening_says, change_says, agrees}
 use Rattle.moments.proofs.Sums.{adds_up}
 use Rattle.moments.proofs.Governed.{agrees_at, by_zeros}
@@ -120,7 +119,7 @@ module _ {f : List ℕ} {l l' : Lent} {a : Answer} (o : Opened f l a l') where
   -- where table and slice have room, the floor alone is refused
   same_number : Lodged f l → refusal f ≡ a.refusal
   same_number room =
-      by_says (says_eq (refusal f) 0) (λ z. z ∙ sym (refusal_opened ∙ open_whole f l z room)) (λ n. opening_number f l refl (rw (ne_eqb _ _ n)) ∙ sym refusal_opened)
+      by_says (says_eq (refusal f) 0) (λ z. z ∙ sym (refusal_opened ∙ open_whole f l z room)) (λ n. opening_stands f l refl n ∙ sym refusal_opened)
 
   open_clear : Lodged f l → (((clear_of f).value ≡ 1) ↔ ((a.refusal ≡ 0) × (a.value ≡ 0))) × ((clear_of f).refusal ≡ a.refusal)
   open_clear room =

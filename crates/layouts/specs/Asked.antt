@@ -16,3 +16,12 @@ pub record Lined (f : List ℕ) (b : Bays) : Type 0 where
 pub record Allowed (f : List ℕ) (b : Bays) : Type 0 where
   pub lined : Lined f b
   pub allowed : LayoutAllowed f
+
+-- the same of the floor alone, for a plan, which has its bays: there is a bay each way
+pub record Bayed (f : List ℕ) : Type 0 where
+  pub bay : (d : Way) → 1 ≤ bays f d
+
+-- and its beams are laid out as one of the layouts has them
+pub record Regular (f : List ℕ) : Type 0 where
+  pub bayed : Bayed f
+  pub allowed : LayoutAllowed f

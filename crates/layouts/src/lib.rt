@@ -1,15 +1,13 @@
 // Rules that every span or line of both directions keeps (refusals 6 and 7), and the layout of the beams.
-// `b` has the bays of the floor, which are read once for a call.
 #![tactic(auto)]
 
 ghost use Rattle.std.specs.Prelude.{◌≡◌, ◌≤◌, ◌*◌, ◌||◌, eqb, ltb, leb};
 ghost use Rattle.layouts.specs.declared.Rule.TheVariants.{Columns, Beams, Depth};
-ghost use Rattle.plan.specs.Asked.{Sized};
-ghost use Rattle.layouts.specs.Asked.{Lined, Allowed};
+ghost use Rattle.layouts.specs.Asked.{Bayed, Regular};
 ghost use Rattle.layouts.specs.Layouts.{beam_on, outer_line, beam_fits, keeps, asked, kept_along, kept, layout_of, told_by, told_layout, beams_ok};
 
-use numbers::{both, same};
-use plan::read::{Bays, bays_along, beam_depth, beam_width, last_line, span};
+use numbers::both;
+use plan::read::Plan;
 use plan::ways::Way;
 
 // Beams on every line; on the four outer lines only; on none.
@@ -20,7 +18,7 @@ pub enum Layout {
     Bare,
 }
 
-// What is asked of a span or a line.
+// What is asked of a span or a line. An enum, not a closure: the clauses of `kept` and `beams_ok` and the theorems on 6 and 7 name each rule.
 #[derive(Clone, Copy)]
 pub enum Rule {
     Columns,
@@ -44,10 +42,11 @@ pub fn outer_line(last: u32, l: u32) -> bool
     l == 0 || l == last
 }
 
+// A width of 0 says here and below that there is no beam. It is no Option: the file has it so, and the clauses speak of it.
 fn beam_fits(layout: Layout, width: u32, last: u32, l: u32) -> bool
     ensures { result ≡ beam_fits layout width last l }
 {
-    same(0 < width, beam_on(layout, outer_line(last, l)))
+    (0 < width) == beam_on(layout, outer_line(last, l))
 }
 
 fn column_fits(column: u32, span: u32) -> bool
@@ -62,75 +61,61 @@ fn deeper(width: u32, depth: u32, t: u32) -> bool
     width == 0 || t < depth
 }
 
-fn column_at(f: &[u8], b: Bays, d: Way, i: u32) -> bool
-    requires { Sized f.now b }
-    ensures { result ≡ keeps f.now d Columns i }
+fn column_at(plan: &Plan, d: Way, i: u32) -> bool
+    ensures { result ≡ keeps plan.now.bytes.now d Columns i }
 {
-    column_fits(plan::column(f, d), span(f, b, d, i))
+    column_fits(plan::column(plan.bytes, d), plan.span(d, i))
 }
 
-fn beam_at(f: &[u8], b: Bays, d: Way, layout: Layout, l: u32) -> bool
-    requires { Sized f.now b }
-    ensures { result ≡ keeps f.now d (Beams layout) l }
+fn beam_at(plan: &Plan, d: Way, layout: Layout, l: u32) -> bool
+    ensures { result ≡ keeps plan.now.bytes.now d (Beams layout) l }
 {
-    beam_fits(layout, beam_width(f, b, d, l), last_line(f, b, d), l)
+    beam_fits(layout, plan.beam_width(d, l), plan.last_line(d), l)
 }
 
-fn depth_at(f: &[u8], b: Bays, d: Way, l: u32) -> bool
-    requires { Sized f.now b }
-    ensures { result ≡ keeps f.now d Depth l }
+fn depth_at(plan: &Plan, d: Way, l: u32) -> bool
+    ensures { result ≡ keeps plan.now.bytes.now d Depth l }
 {
     deeper(
-        beam_width(f, b, d, l),
-        beam_depth(f, b, d, l),
-        plan::thickness(f),
+        plan.beam_width(d, l),
+        plan.beam_depth(d, l),
+        plan::thickness(plan.bytes),
     )
 }
 
-fn keeps(f: &[u8], b: Bays, d: Way, rule: Rule, i: u32) -> bool
-    requires { Sized f.now b }
-    ensures { result ≡ keeps f.now d rule i }
+// Plan, way and rule come one by one, here and below, as `keeps` of specs/ takes them.
+fn keeps(plan: &Plan, d: Way, rule: Rule, i: u32) -> bool
+    ensures { result ≡ keeps plan.now.bytes.now d rule i }
 {
     match rule {
-        Rule::Columns => column_at(f, b, d, i),
-        Rule::Beams(layout) => beam_at(f, b, d, layout, i),
-        Rule::Depth => depth_at(f, b, d, i),
+        Rule::Columns => column_at(plan, d, i),
+        Rule::Beams(layout) => beam_at(plan, d, layout, i),
+        Rule::Depth => depth_at(plan, d, i),
     }
 }
 
-fn asked(f: &[u8], b: Bays, d: Way, rule: Rule) -> u32
-    requires { Sized f.now b }
-    ensures { (result ≡ asked f.now d rule) × (result ≤ 13) }
+fn asked(plan: &Plan, d: Way, rule: Rule) -> u32
+    ensures { (result ≡ asked plan.now.bytes.now d rule) × (result ≤ 13) }
 {
     match rule {
-        Rule::Columns => bays_along(f, b, d),
-        Rule::Beams(_) => last_line(f, b, d) + 1,
-        Rule::Depth => last_line(f, b, d) + 1,
+        Rule::Columns => plan.bays_along(d),
+        Rule::Beams(_) => plan.last_line(d) + 1,
+        Rule::Depth => plan.last_line(d) + 1,
     }
 }
 
-fn kept_along(f: &[u8], b: Bays, d: Way, rule: Rule) -> bool
-    requires { Sized f.now b }
-    ensures { result ≡ kept_along f.now d rule }
+fn kept_along(plan: &Plan, d: Way, rule: Rule) -> bool
+    ensures { result ≡ kept_along plan.now.bytes.now d rule }
 {
-    let n = asked(f, b, d, rule);
-    let mut i: u32 = 0;
-    while i < n {
-        if !keeps(f, b, d, rule, i) {
-            return false;
-        }
-        i += 1;
-    }
-    true
+    (0..asked(plan, d, rule)).all(|i| keeps(plan, d, rule, i))
 }
 
-pub fn kept(f: &[u8], b: Bays, rule: Rule) -> bool
-    requires { Sized f.now b }
-    ensures { result ≡ kept f.now rule }
+pub fn kept(plan: &Plan, rule: Rule) -> bool
+    ensures { result ≡ kept plan.now.bytes.now rule }
 {
     both(
-        kept_along(f, b, Way::X, rule),
-        kept_along(f, b, Way::Y, rule),
+        kept_along(plan, Way::X, rule),
+        kept_along(plan, Way::Y, rule),
     )
 }
 
@@ -150,29 +135,28 @@ fn told_by(first: u32, x: u32, y: u32) -> Layout
     Layout::Everywhere
 }
 
-fn told(f: &[u8], b: Bays) -> Layout
-    requires { Sized f.now b }
-    ensures { result ≡ told_layout f.now }
+fn told(plan: &Plan) -> Layout
+    ensures { result ≡ told_layout plan.now.bytes.now }
 {
     told_by(
-        beam_width(f, b, Way::X, 0),
-        beam_width(f, b, Way::X, 1),
-        beam_width(f, b, Way::Y, 1),
+        plan.beam_width(Way::X, 0),
+        plan.beam_width(Way::X, 1),
+        plan.beam_width(Way::Y, 1),
     )
 }
 
 // The layout of a floor whose layout is allowed.
-pub fn layout_told(f: &[u8], b: Bays) -> Layout
-    requires { Allowed f.now b }
-    ensures { result ≡ layout_of f.now }
+pub fn layout_told(plan: &Plan) -> Layout
+    requires { Regular plan.now.bytes.now }
+    ensures { result ≡ layout_of plan.now.bytes.now }
 {
-    told(f, b)
+    told(plan)
 }
 
 // 7: the layout is allowed, and every beam is deeper than the slab.
-pub fn beams_ok(f: &[u8], b: Bays) -> bool
-    requires { Lined f.now b }
-    ensures { result ≡ beams_ok f.now }
+pub fn beams_ok(plan: &Plan) -> bool
+    requires { Bayed plan.now.bytes.now }
+    ensures { result ≡ beams_ok plan.now.bytes.now }
 {
-    both(kept(f, b, Rule::Beams(told(f, b))), kept(f, b, Rule::Depth))
+    both(kept(plan, Rule::Beams(told(plan))), kept(plan, Rule::Depth))
 }

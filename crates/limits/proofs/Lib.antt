@@ -2,3 +2,4 @@ pub mod Digits
 pub mod Places
 pub mod Meaning
 pub mod Edges
+pub mod Listed

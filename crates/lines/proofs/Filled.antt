@@ -7,7 +7,7 @@
 --     one_row                      no second row of α
 --     one_spans, one_alphas, one_panel_alphas    no second array of both rows
 --     pair_in, pair_is             the two beside a bay, and their sum
---     beside, at_panel             α of all lines has that of two, and of a panel's four
+--     beside, stiff_at, at_panel   α of all lines has that of two, and of a panel's four
 --     clearing_x, clearing_y       a panel's two clear spans
 --     weak_is                      that a panel has a weak edge is asked of an outer one alone
 --     view_is                      what is put together of all that is a panel's view
@@ -41,7 +41,7 @@ use Rattle.lines.specs.declared.slab.Slab.{Slab}
 use Rattle.lines.specs.Lines.{outer, line_alpha, pair_alpha, clear_span, outer_panel, weak_edge, place_of, panel_place, is_everywhere, panel_view, panel_thickness}
 use Rattle.lines.specs.Slabs.{slab_of}
 use Rattle.lines.specs.Rows.{Alphas, SameElse, ZeroElse, Spans, AllSpans, AllAlphas, AlphaRows, PanelAlphaRows, TwoRows, row_of, pair_at, weak_at}
-use Rattle.lines.specs.Asked.{TwoAlphas, Clearing, Ready, PanelAtHand, AtPanel}
+use Rattle.lines.specs.Asked.{TwoAlphas, Clearing, Ready, AtPanel, InPanel, StiffPanel}
 use Rattle.lines.proofs.Floors.{alpha_bound, panel_in}
 
 -- the numbers of a from `from` on and below n are those of v
@@ -96,12 +96,13 @@ module _ {f : List ℕ} {d : Way} {a : List ℕ} {k : ℕ} (known : Alphas f d k
 pub beside : {f : List ℕ} {d : Way} {a : List ℕ} {k : ℕ} → Alphas f d 0 (last_line f d) a → k < last_line f d → Alphas f d k (k + 1) a
 beside known h = record { is = λ l p q. known.is l (omega arith) (omega arith); most = λ l p q. known.most l (omega arith) (omega arith) }
 
+pub stiff_at : {f : List ℕ} {a : List (List ℕ)} {i j : ℕ} → AllAlphas f a → i < bays f X → j < bays f Y → StiffPanel f a i j
+stiff_at p hi hj =
+    record { panel = record { x_bay = hi; y_bay = hj }; alphas = record { x = beside (p X) hj; y = beside (p Y) hi } }
+
 pub at_panel : {f : List ℕ} {slab : Slab} {s a : List (List ℕ)} {i j : ℕ} → Ready f slab s a → i < bays f X → j < bays f Y → AtPanel f slab s a i j
 at_panel p hi hj =
-    record {
-      panel = record { surveyed = p.surveyed; x_bay = hi; y_bay = hj };
-      alphas = record { x = beside (p.alphas X) hj; y = beside (p.alphas Y) hi };
-    }
+    record { panel = record { surveyed = p.surveyed; x_bay = hi; y_bay = hj }; alphas = (stiff_at p.alphas hi hj).alphas }
 
 -- a row for each direction
 pub both_spans : {f x y : List ℕ} → Spans f X x → Spans f Y y → AllSpans f (x ∷ y ∷ [])
@@ -214,32 +215,32 @@ outer_alone false false true r v w x y = refl
 outer_alone false false false true v w x y = refl
 outer_alone false false false false v w x y = refl
 
-module _ (f : List ℕ) {slab : Slab} {s a : List (List ℕ)} (i j : ℕ) (p : AtPanel f slab s a i j) where
-  abbrev at : PanelAtHand f slab s i j
+module _ (f : List ℕ) {slab : Slab} {a : List (List ℕ)} (i j : ℕ) (accepted : refusal f ≡ 0) (same : slab ≡ slab_of f) (p : StiffPanel f a i j) where
+  abbrev at : InPanel f i j
   at = p.panel
 
   numbers : Fair f
-  numbers = fair f at.surveyed.accepted
+  numbers = fair f accepted
 
-  pub clearing_x : Clearing (row_of s X) slab.cx i
+  pub clearing_x : {s : List ℕ} → Spans f X s → Clearing s slab.cx i
   unfolding slab_of
-  clearing_x =
+  clearing_x spans =
       record {
         index = omega (arith, numbers.bays_in X, at.x_bay);
-        shorter = rw (at.surveyed.shared, (at.surveyed.spans X).is i (omega (arith, numbers.bays_in X, at.x_bay))) (omega (arith, numbers.clear X i at.x_bay));
+        shorter = rw (same, spans.is i (omega (arith, numbers.bays_in X, at.x_bay))) (omega (arith, numbers.clear X i at.x_bay));
       }
 
-  pub clearing_y : Clearing (row_of s Y) slab.cy j
+  pub clearing_y : {s : List ℕ} → Spans f Y s → Clearing s slab.cy j
   unfolding slab_of
-  clearing_y =
+  clearing_y spans =
       record {
         index = omega (arith, numbers.bays_in Y, at.y_bay);
-        shorter = rw (at.surveyed.shared, (at.surveyed.spans Y).is j (omega (arith, numbers.bays_in Y, at.y_bay))) (omega (arith, numbers.clear Y j at.y_bay));
+        shorter = rw (same, spans.is j (omega (arith, numbers.bays_in Y, at.y_bay))) (omega (arith, numbers.clear Y j at.y_bay));
       }
 
   shared : (slab.bays.x ≡ bays f X) × (slab.bays.y ≡ bays f Y) × (slab.layout ≡ layout_of f) × (slab.fy ≡ grade f) × (slab.cx ≡ column f X) × (slab.cy ≡ column f Y)
   unfolding slab_of
-  shared = rw at.surveyed.shared (refl, refl, refl, refl, refl, refl)
+  shared = rw same (refl, refl, refl, refl, refl, refl)
 
   -- an outer panel, and one that has a weak edge, as nx, ny and the α at hand tell it
   module _ {outside weak : Bool}
@@ -265,12 +266,12 @@ module _ (f : List ℕ) {slab : Slab} {s a : List (List ℕ)} (i j : ℕ) (p : A
         )
         (outer_alone (outer f X j) (outer f X (j + 1)) (outer f Y i) (outer f Y (i + 1)) (below8000 X j) (below8000 X (j + 1)) (below8000 Y i) (below8000 Y (i + 1)))
 
-    pub view_is : {everywhere : Bool} {place : PanelPlace} {fy x y sn ln v w : ℕ}
-        → x ≡ get_or (row_of s X) i 0 - slab.cx → y ≡ get_or (row_of s Y) j 0 - slab.cy → v ≡ pair_at (row_of a X) j → w ≡ pair_at (row_of a Y) i
+    pub view_is : {sx sy : List ℕ} {everywhere : Bool} {place : PanelPlace} {fy x y sn ln v w : ℕ} → Spans f X sx → Spans f Y sy
+        → x ≡ get_or sx i 0 - slab.cx → y ≡ get_or sy j 0 - slab.cy → v ≡ pair_at (row_of a X) j → w ≡ pair_at (row_of a Y) i
         → everywhere ≡ is_everywhere slab.layout → place ≡ place_of outside weak → fy ≡ slab.fy → sn ≡ min x y → ln ≡ max x y
         → ◌≡◌ {A = Panel} (record { everywhere = everywhere; place = place; fy = fy; sn = sn; ln = ln; s = v + w; weak = weak }) (panel_view f i j)
     unfolding panel_view panel_place outer_panel clear_span
-    view_is ex ey ea eb ev ep ef es el =
+    view_is px py ex ey ea eb ev ep ef es el =
         cc (
           shared.0,
           shared.1,
@@ -278,8 +279,8 @@ module _ (f : List ℕ) {slab : Slab} {s a : List (List ℕ)} (i j : ℕ) (p : A
           shared.3,
           shared.4,
           shared.5,
-          (at.surveyed.spans X).is i clearing_x.index,
-          (at.surveyed.spans Y).is j clearing_y.index,
+          px.is i (clearing_x px).index,
+          py.is j (clearing_y py).index,
           pair_is p.alphas.x,
           pair_is p.alphas.y,
           weak_is,
@@ -287,7 +288,7 @@ module _ (f : List ℕ) {slab : Slab} {s a : List (List ℕ)} (i j : ℕ) (p : A
 
   module _ {view : Panel} (is : view ≡ panel_view f i j) where
     pub asked : PanelSizes view.fy view.sn view.ln
-    asked = rw is (panel_in f i j at.surveyed.accepted at.x_bay at.y_bay)
+    asked = rw is (panel_in f i j accepted at.x_bay at.y_bay)
 
     pub least_is : {r : ℕ} → r ≡ least_thickness view → r ≡ panel_thickness f i j
     unfolding panel_thickness
@@ -295,8 +296,8 @@ module _ (f : List ℕ) {slab : Slab} {s a : List (List ℕ)} (i j : ℕ) (p : A
 
     pub enough_is : {b : Bool} → b ≡ leb (least_thickness view) slab.t → b ≡ leb (panel_thickness f i j) (thickness f)
     unfolding slab_of panel_thickness
-    enough_is e = cc (is, at.surveyed.shared)
+    enough_is e = cc (is, same)
 
   pub thick_in : SlabMost slab.t
   unfolding slab_of
-  thick_in = rw at.surveyed.shared (record { most = numbers.thickness_in.1 })
+  thick_in = rw same (record { most = numbers.thickness_in.1 })

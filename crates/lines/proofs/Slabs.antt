@@ -1,10 +1,11 @@
 -- What a slab at hand says of its floor.
 --     sized_of, laid_of, bays_of_lem, loads_of    the bays, the layout and the loads
---     lines_of, line_past                     lines whose α can be worked out: all of a direction, and the two beside a panel
+--     surveyed, ready                         what a survey says of its floor, and what one with α of every line does
+--     line_at, panel_at, stiff_panel          of one of its lines, of a panel, and of one with α of its four lines
 --     some_lines, panel_few                   a direction has a second line, and a panel's bays are few
 --     line_asked, beam_asked, line_is         a line at hand: its two spans, the column across it and its beam, as the rules ask for them, and α
 -- Assumes nothing.
-use Prim.Native.Nat.{ℕ, ◌+◌, ◌-◌, ◌≤◌, ◌<◌}
+use Prim.Native.Nat.{ℕ, ◌-◌, ◌≤◌, ◌<◌}
 use mathlib.Core.Bool.{Bool, cond}
 use mathlib.Core.List.{List}
 use mathlib.Core.Path.{◌≡◌, refl}
@@ -24,8 +25,11 @@ use Rattle.stiffness.specs.Lines.{frame_width, alpha}
 use Rattle.lines.specs.declared.slab.Slab.{Slab}
 use Rattle.lines.specs.Lines.{outer, below, line_alpha}
 use Rattle.lines.specs.Slabs.{slab_of}
-use Rattle.lines.specs.Rows.{row_of}
-use Rattle.lines.specs.Asked.{LineAtHand, Surveyed, PanelAtHand}
+use Rattle.floor.specs.Refusal.{refusal}
+use Rattle.lines.specs.declared.survey.Survey.{Survey}
+use Rattle.lines.specs.declared.survey.Lines.{Lines}
+use Rattle.lines.specs.Rows.{Spans}
+use Rattle.lines.specs.Asked.{LineAtHand, Surveyed, Ready, PanelAtHand, AtPanel, InPanel, StiffPanel}
 use Rattle.lines.proofs.Floors.{line_of, beam_of}
 
 module _ (f : List ℕ) {slab : Slab} (shared : slab ≡ slab_of f) where
@@ -60,9 +64,6 @@ module _ {f : List ℕ} {slab : Slab} {d : Way} {s : List ℕ} {l : ℕ} (p : Li
   pub line_index : l < 13
   line_index = omega (arith, p.on.line, bays_most f (across d))
 
-  pub line_before : {k : ℕ} → k ≤ l → LineAtHand f slab d s k
-  line_before h = record { on = record { accepted = p.on.accepted; line = omega (arith, h, p.on.line) }; shared = p.shared; spans = p.spans }
-
   low_is : cond (eqb l 0) 0 (get_or s (l - 1) 0) ≡ below f d l
   unfolding below
   low_is = rw (p.spans.is (l - 1) (omega (arith, line_index)))
@@ -70,10 +71,10 @@ module _ {f : List ℕ} {slab : Slab} {d : Way} {s : List ℕ} {l : ℕ} (p : Li
   pub beam_asked : {b h : ℕ} → b ≡ beam_width f d l → h ≡ beam_depth f d l → Beam b h slab.t
   beam_asked eb eh = rw (eb, eh, slab_t f p.shared) (beam_of f p.on.accepted d l)
 
-  module _ {last low col : ℕ} {o : Bool} (en : last ≡ pick d slab.bays.y slab.bays.x) (eo : o ≡ outer_line last l)
+  module _ {last low col : ℕ} {o : Bool} (en : last ≡ last_line f d) (eo : o ≡ outer_line last l)
       (ec : col ≡ pick d slab.cy slab.cx) (el : low ≡ cond (eqb l 0) 0 (get_or s (l - 1) 0)) where
     outer_is : o ≡ outer f d l
-    outer_is = cc (bays_of_lem f p.shared d).1
+    outer_is = cc
 
     pub line_asked : Line o low (get_or s l 0) col
     line_asked =
@@ -84,20 +85,27 @@ module _ {f : List ℕ} {slab : Slab} {d : Way} {s : List ℕ} {l : ℕ} (p : Li
     unfolding line_alpha
     line_is ew eb eh er = cc (outer_is, low_is, p.spans.is l line_index, column_across f p.shared d, slab_t f p.shared)
 
--- the spans across d stand in the row of the other direction
-module _ {f : List ℕ} {slab : Slab} {s : List (List ℕ)} (d : Way) where
-  to_line : {l : ℕ} → Surveyed f slab s → l ≤ last_line f d → LineAtHand f slab d (row_of s (across d)) l
-  to_line p h = record { on = record { accepted = p.accepted; line = h }; shared = p.shared; spans = p.spans (across d) }
+-- what a survey says of its floor, of a line and of a panel
+module _ (v : Survey) where
+  pub surveyed : Surveyed v.floor.bytes.now v.floor.slab v.spans
+  surveyed = record { accepted = v.floor.accepted; shared = v.floor.shared; spans = v.measured }
 
-  pub lines_of : Surveyed f slab s → LineAtHand f slab d (row_of s (across d)) (pick d slab.bays.y slab.bays.x)
-  lines_of p = to_line p (omega (arith, (bays_of_lem f p.shared d).1))
+  pub line_at : {d : Way} {s : List ℕ} {l : ℕ} → Spans v.floor.bytes.now (across d) s → l ≤ last_line v.floor.bytes.now d
+      → LineAtHand v.floor.bytes.now v.floor.slab d s l
+  line_at spans h = record { on = record { accepted = v.floor.accepted; line = h }; shared = v.floor.shared; spans = spans }
 
-  pub line_past : {k : ℕ} → Surveyed f slab s → k < last_line f d → LineAtHand f slab d (row_of s (across d)) (k + 1)
-  line_past p h = to_line p (omega (arith, h))
+  pub panel_at : {i j : ℕ} → InPanel v.floor.bytes.now i j → PanelAtHand v.floor.bytes.now v.floor.slab v.spans i j
+  panel_at p = record { surveyed = surveyed; x_bay = p.x_bay; y_bay = p.y_bay }
+
+  pub stiff_panel : {a : List (List ℕ)} {i j : ℕ} → StiffPanel v.floor.bytes.now a i j → AtPanel v.floor.bytes.now v.floor.slab v.spans a i j
+  stiff_panel p = record { panel = panel_at p.panel; alphas = p.alphas }
+
+pub ready : (v : Lines) → Ready v.survey.floor.bytes.now v.survey.floor.slab v.survey.spans v.alphas
+ready v = record { surveyed = surveyed v.survey; alphas = v.stiff }
 
 -- a direction has a second line
-pub some_lines : {f : List ℕ} {slab : Slab} {s : List (List ℕ)} → Surveyed f slab s → (d : Way) → 1 ≤ pick d slab.bays.y slab.bays.x
-some_lines {f} p d = omega (arith, (bays_of_lem f p.shared d).1, (fair f p.accepted).bays_in (across d))
+pub some_lines : (f : List ℕ) {slab : Slab} → refusal f ≡ 0 → slab ≡ slab_of f → (d : Way) → 1 ≤ pick d slab.bays.y slab.bays.x
+some_lines f e shared d = omega (arith, (bays_of_lem f shared d).1, (fair f e).bays_in (across d))
 
-pub panel_few : {f : List ℕ} {slab : Slab} {s : List (List ℕ)} {i j : ℕ} → PanelAtHand f slab s i j → (i < 12) × (j < 12)
+pub panel_few : {f : List ℕ} {i j : ℕ} → InPanel f i j → (i < 12) × (j < 12)
 panel_few {f} p = (omega (arith, p.x_bay, bays_most f X), omega (arith, p.y_bay, bays_most f Y))

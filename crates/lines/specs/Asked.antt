@@ -63,3 +63,17 @@ pub record TwoAlphas (a : List ℕ) (k : ℕ) : Type 0 where
   pub index : k < 12
   pub low : get_or a k 0 ≤ 200000000
   pub high : get_or a (k + 1) 0 ≤ 200000000
+
+-- the floor has a panel of x bay i and y bay j
+pub record InPanel (f : List ℕ) (i j : ℕ) : Type 0 where
+  pub x_bay : i < bays f X
+  pub y_bay : j < bays f Y
+
+-- and α of its four lines is at hand
+pub record StiffPanel (f : List ℕ) (a : List (List ℕ)) (i j : ℕ) : Type 0 where
+  pub panel : InPanel f i j
+  pub alphas : PanelAlphas f i j a
+
+-- α of the four lines around the first panel is, and of no other line
+pub record NearAlphas (f : List ℕ) (a : List (List ℕ)) : Type 0 where
+  pub near : PanelAlphaRows f 0 0 a

@@ -4,3 +4,4 @@
 pub mod line;
 pub mod panel;
 pub mod slab;
+pub mod survey;

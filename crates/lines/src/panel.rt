@@ -5,13 +5,14 @@ ghost use Rattle.plan.specs.Plan.{thickness};
 ghost use Rattle.layouts.specs.Layouts.{outer_line};
 ghost use Rattle.lines.specs.Lines.{is_everywhere, weak_line, place_of, panel_view, panel_thickness};
 ghost use Rattle.lines.specs.Rows.{row_of, weak_at};
-ghost use Rattle.lines.specs.Asked.{Clearing, AtPanel};
+ghost use Rattle.lines.specs.Asked.{Clearing, StiffPanel};
 
 use crate::line::{X, Y, pair_alpha};
-use crate::slab::Slab;
+use crate::survey::Survey;
 use layouts::{Layout, outer_line};
-use numbers::{both, either, larger, smaller};
+use numbers::{both, either};
 use plan::read::Bays;
+use plan::ways::Way;
 use thickness::{Panel, PanelPlace, enough, least_thickness};
 
 pub fn is_everywhere(layout: Layout) -> bool
@@ -92,60 +93,45 @@ fn clear_span(s: &[u64; 13], column: u32, k: u32) -> u64
     s[i] - (column as u64)
 }
 
-fn panel_view(
-    f: &[u8],
-    slab: Slab,
-    spans: &[[u64; 13]; 2],
-    alphas: &[[u64; 13]; 2],
-    i: u32,
-    j: u32,
-) -> Panel
-    requires { AtPanel f.now slab spans.now alphas.now i j }
-    ensures { result ≡ panel_view f.now i j }
-{
-    let layout = slab.layout;
-    let x = clear_span(&spans[X], slab.cx, i);
-    let y = clear_span(&spans[Y], slab.cy, j);
-    let along_x = pair_alpha(&alphas[X], j);
-    let along_y = pair_alpha(&alphas[Y], i);
-    let outside = outer_panel(slab.bays.x, slab.bays.y, i, j);
-    let weak = weak_edge(outside, slab.bays, alphas, i, j);
-    Panel {
-        everywhere: is_everywhere(layout),
-        place: place(outside, weak),
-        fy: slab.fy as u64,
-        sn: smaller(x, y),
-        ln: larger(x, y),
-        s: along_x + along_y,
-        weak: weak,
+// `StiffPanel` is asked, here, in `extremes` and in `clear`: a caller asks one or two things of a panel, and a type would be built for these.
+impl Survey<'_> {
+    // Of the panel, with α of its four lines at hand. A survey and these, here and below, not a `Lines`: the panel query has α of no other line.
+    // Inlined, so that the walk over panels reads the same line's numbers once.
+    #[inline(always)]
+    fn panel_view(&self, alphas: &[[u64; 13]; 2], i: u32, j: u32) -> Panel
+        requires { StiffPanel self.now.floor.bytes.now alphas.now i j }
+        ensures { result ≡ panel_view self.now.floor.bytes.now i j }
+    {
+        let slab = self.floor.slab;
+        let x = clear_span(self.spans_along(Way::X), slab.cx, i);
+        let y = clear_span(self.spans_along(Way::Y), slab.cy, j);
+        let along_x = pair_alpha(&alphas[X], j);
+        let along_y = pair_alpha(&alphas[Y], i);
+        let outside = outer_panel(slab.bays.x, slab.bays.y, i, j);
+        let weak = weak_edge(outside, slab.bays, alphas, i, j);
+        Panel {
+            everywhere: is_everywhere(slab.layout),
+            place: place(outside, weak),
+            fy: slab.fy as u64,
+            sn: x.min(y),
+            ln: x.max(y),
+            s: along_x + along_y,
+            weak,
+        }
     }
-}
 
-pub fn panel_thickness(
-    f: &[u8],
-    slab: Slab,
-    spans: &[[u64; 13]; 2],
-    alphas: &[[u64; 13]; 2],
-    i: u32,
-    j: u32,
-) -> u64
-    requires { AtPanel f.now slab spans.now alphas.now i j }
-    ensures { (result ≡ panel_thickness f.now i j) × (90 ≤ result) × (result ≤ 423) }
-{
-    least_thickness(panel_view(f, slab, spans, alphas, i, j))
-}
+    pub fn panel_thickness(&self, alphas: &[[u64; 13]; 2], i: u32, j: u32) -> u64
+        requires { StiffPanel self.now.floor.bytes.now alphas.now i j }
+        ensures { (result ≡ panel_thickness self.now.floor.bytes.now i j) × (90 ≤ result) × (result ≤ 423) }
+    {
+        least_thickness(self.panel_view(alphas, i, j))
+    }
 
-// Is t enough for the panel? By 01's inequality, of the largest answer that t allows: the least thickness would take a division by a variable.
-pub fn thick_enough(
-    f: &[u8],
-    slab: Slab,
-    spans: &[[u64; 13]; 2],
-    alphas: &[[u64; 13]; 2],
-    i: u32,
-    j: u32,
-) -> bool
-    requires { AtPanel f.now slab spans.now alphas.now i j }
-    ensures { result ≡ leb (panel_thickness f.now i j) (thickness f.now) }
-{
-    enough(panel_view(f, slab, spans, alphas, i, j), slab.t as u64)
+    // Is t enough for the panel? By 01's inequality, of the largest answer that t allows: the least thickness would take a division by a variable.
+    pub fn thick_enough(&self, alphas: &[[u64; 13]; 2], i: u32, j: u32) -> bool
+        requires { StiffPanel self.now.floor.bytes.now alphas.now i j }
+        ensures { result ≡ leb (panel_thickness self.now.floor.bytes.now i j) (thickness self.now.floor.bytes.now) }
+    {
+        enough(self.panel_view(alphas, i, j), self.floor.slab.t as u64)
+    }
 }

@@ -4,7 +4,7 @@ ghost use Rattle.floor.specs.Asked.{Accepted};
 ghost use Rattle.lines.specs.Slabs.{slab_of};
 
 use layouts::{Layout, layout_told};
-use plan::read::{Bays, bays_of};
+use plan::read::{Bays, Plan};
 use plan::ways::Way;
 
 #[derive(Clone, Copy)]
@@ -24,10 +24,10 @@ pub fn slab_of(f: &[u8]) -> Slab
     requires { Accepted f.now }
     ensures { result ≡ slab_of f.now }
 {
-    let bays = bays_of(f);
+    let plan = Plan::of(f);
     Slab {
-        layout: layout_told(f, bays),
-        bays,
+        layout: layout_told(&plan),
+        bays: plan.bays,
         t: plan::thickness(f),
         fy: plan::grade(f),
         cx: plan::column(f, Way::X),

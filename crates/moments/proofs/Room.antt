@@ -1,21 +1,18 @@
 -- The numbers of opening and of a change: given exactly when their statements say so, and what success says of the floor and of what is lent.
 -- Assumes nothing.
 use Prim.Native.Nat.{ℕ, ◌*◌}
-use mathlib.Core.Bool.{cond}
-use mathlib.Core.List.{List, ◌++◌}
+use mathlib.Core.List.{List}
 use mathlib.Core.Logic.{◌↔◌}
-use mathlib.Core.Path.{◌≡◌, refl, sym, ◌∙◌}
-use lib.Dec.{eqb}
+use mathlib.Core.Path.{◌≡◌, refl, sym}
 use lib.ListN.{length}
-use Rattle.numbers.proofs.Tests.{says_le, says_eq, by_test}
-use Rattle.numbers.specs.Chains.{Chain, tried, Holds, Sound}
+use Rattle.numbers.proofs.Tests.{says_le}
+use Rattle.numbers.specs.Chains.{tried, Holds, Sound}
 use Rattle.numbers.specs.Chains.Sound.{done, ◌then◌}
 use Rattle.numbers.proofs.Chains.{answers, success, both_zero, ◌before◌, stands, decides}
-use Rattle.floor.specs.Refusal.{refusal}
+use Rattle.floor.specs.Refusal.{refusal, floor_checks}
 use Rattle.floor.proofs.Meaning.{sound_floor}
-use Rattle.changes.specs.declared.Ruling.{Ruling}
-use Rattle.changes.specs.Refusal.{change_refusal, ruling}
-use Rattle.changes.proofs.Given.{sound_change, number_ruled}
+use Rattle.changes.specs.Refusal.{change_checks, change_refusal}
+use Rattle.changes.proofs.Given.{sound_change}
 use Rattle.plan.specs.Plan.{bays_of}
 use Rattle.tables.specs.Width.{record_width}
 use Rattle.tables.specs.Places.{record_count}
@@ -67,18 +64,18 @@ change_whole f l c e h = sym (decides (sound_change f c) (room_checks f l) (sym 
 
 -- ---- a number that was given stands, and else the room decides
 
-then_room : {xs : Chain} → Sound xs → (f : List ℕ) (l : Lent) {m n : ℕ} → m ≡ tried xs → n ≡ cond (eqb m 0) (room_refusal f l) m
-    → n ≡ tried (xs ++ room_checks f l)
-unfolding room_refusal
-then_room {xs} s f l {m} {n} e =
-    by_test {x = tried (room_checks f l)} {y = m} (λ (r : ℕ). n ≡ r → n ≡ tried (xs ++ room_checks f l)) (says_eq m 0) (λ z h. decides s _ e z h)
-    (λ ne h. h ∙ stands xs _ e ne)
-
-pub opening_number : (f : List ℕ) (l : Lent) {m n : ℕ} → m ≡ refusal f → n ≡ cond (eqb m 0) (room_refusal f l) m → n ≡ open_refusal f l
+pub opening_stands : (f : List ℕ) (l : Lent) {n : ℕ} → n ≡ refusal f → ¬ (n ≡ 0) → n ≡ open_refusal f l
 unfolding open_refusal open_checks refusal
-opening_number f l = then_room (sound_floor f) f l
+opening_stands f l = stands (floor_checks f) (room_checks f l)
 
-pub changing_number : (f c : List ℕ) (l : Lent) {r : Ruling} {n : ℕ} → r ≡ ruling f c → n ≡ cond (eqb r.number 0) (room_refusal f l) r.number
-    → n ≡ change_number f l c
+pub opening_decides : (f : List ℕ) (l : Lent) {n : ℕ} → 0 ≡ refusal f → n ≡ room_refusal f l → n ≡ open_refusal f l
+unfolding open_refusal open_checks refusal room_refusal
+opening_decides f l e = decides (sound_floor f) (room_checks f l) e refl
+
+pub changing_stands : (f c : List ℕ) (l : Lent) {n : ℕ} → n ≡ change_refusal f c → ¬ (n ≡ 0) → n ≡ change_number f l c
 unfolding change_number changing_checks change_refusal
-changing_number f c l e = then_room (sound_change f c) f l (number_ruled f c e)
+changing_stands f c l = stands (change_checks f c) (room_checks f l)
+
+pub changing_decides : (f c : List ℕ) (l : Lent) {n : ℕ} → 0 ≡ change_refusal f c → n ≡ room_refusal f l → n ≡ change_number f l c
+unfolding change_number changing_checks change_refusal room_refusal
+changing_decides f c l e = decides (sound_change f c) (room_checks f l) e refl

@@ -1,6 +1,6 @@
 -- Each way out of opening and of a change, with what was answered on it as premises; and the whole table, written by naming all or by zeros.
 -- Assumes nothing.
-use Prim.Native.Nat.{ℕ, ◌≤◌, ◌<◌, zero-le}
+use Prim.Native.Nat.{ℕ, ◌≤◌, ◌<◌}
 use mathlib.Core.Bool.{Bool, true, false, cond, ◌&&◌}
 use mathlib.Core.List.{List}
 use mathlib.Core.Path.{◌≡◌, refl, sym, ap, ◌∙◌}
@@ -21,31 +21,31 @@ use Rattle.plan.specs.Plan.{bays, bays_of, many}
 use Rattle.plan.proofs.Reading.{bays_most}
 use Rattle.plan.proofs.Directions.{span_count}
 use Rattle.changes.specs.Change.{change_kind, change_index, changed}
-use Rattle.changes.specs.declared.Ruling.{Ruling}
-use Rattle.changes.specs.Refusal.{ruling}
-use Rattle.changes.specs.Asked.{Placed}
 use Rattle.changes.specs.Meaning.{TakenChange}
 use Rattle.changes.proofs.Kept.{many_kept}
-use Rattle.changes.proofs.Given.{number_ruled, stores}
-use Rattle.answers.specs.declared.Answer.{Answer}
-use Rattle.answers.specs.Answers.{answer}
-use Rattle.limits.specs.Limits.{verdict}
+use Rattle.std.specs.Prelude.{Ok, Err}
+use Rattle.answers.specs.declared.Refusal.{Refusal}
+use Rattle.answers.specs.Answers.{answer, number, verdict_answer}
+use Rattle.answers.proofs.Refusals.{not_zero}
+use Rattle.floor.specs.Refusal.{refusal}
+use Rattle.limits.specs.Limits.{verdict, is_clear}
 use Rattle.tables.specs.Width.{record_width}
 use Rattle.lines.specs.declared.slab.Slab.{Slab}
 use Rattle.lines.specs.Slabs.{slab_of}
 use Rattle.lines.proofs.Slabs.{sized_of}
-use Rattle.tables.specs.Places.{records_of, record_count}
-use Rattle.tables.specs.Asked.{Bayed}
+use Rattle.tables.specs.Places.{record_count}
 use Rattle.tables.specs.Named.{named_at}
 use Rattle.tables.specs.Blank.{zeros, blanked}
 use Rattle.tables.specs.Meaning.Names.{loads}
-use Rattle.tables.proofs.Numbered.{bayed, counted}
+use Rattle.tables.proofs.Numbered.{bayed}
 use Rattle.tables.proofs.Meaning.{says_named_at}
 use Rattle.supports.specs.Governing.{support_width, spans_of, support_count, support_at, governed}
 use Rattle.supports.specs.Beside.{beside_at}
 use Rattle.supports.specs.Asked.{Supporting}
 use Rattle.supports.proofs.Besides.{spans_are, all_beside}
-use Rattle.frames.specs.Asked.{Listed, InTable}
+use Rattle.lines.specs.Rows.{AllAlphas}
+use Rattle.frames.specs.Asked.{Listed, InTable, Writable}
+use Rattle.frames.proofs.Frames.{in_table as table_named}
 use Rattle.frames.specs.Table.{record_at, named_written}
 use Rattle.moments.specs.Lent.{Lent, lent}
 use Rattle.moments.specs.Tables.{right_record, fresh, afresh}
@@ -54,7 +54,7 @@ use Rattle.moments.specs.Changing.{change_number, rewritten, regoverned, remade_
 use Rattle.moments.specs.Asked.{Settling, Judging, Rewriting}
 use Rattle.moments.proofs.Fresh.{right_clear}
 use Rattle.moments.proofs.Governed.{same_lent, some_spans}
-use Rattle.moments.proofs.Room.{open_parts, change_parts}
+use Rattle.moments.proofs.Room.{open_parts}
 use Rattle.moments.proofs.Demand.{taken_of, lodged_changed}
 
 -- ---- the whole table
@@ -71,96 +71,93 @@ module _ (f t : List ℕ) where
   unfolding blanked fresh right_record
   all_blank ne = same_written record_width every every zeros (right_record f) 0 (record_count f) t (λ k _ h. refl) (λ k _ h. rw (ne_eqb (verdict f) 0 ne))
 
-  module _ {slab : Slab} {a : List (List ℕ)} {stands : Bool} (h : Judging f t slab a stands) where
+  module _ {stands : Bool} (h : Judging f t stands) where
     stands_clear : stands ≡ true → verdict f ≡ 0
     stands_clear e = eqb-true (verdict f) 0 (sym h.verdict ∙ e)
 
-    pub in_table : {kind index : ℕ} → stands ≡ true → Listed f kind index → InTable f t slab a kind index
-    in_table e there =
-        record {
-          standing = record { accepted = h.accepted; clear = stands_clear e; shared = h.shared; table = h.table };
-          alphas = h.alphas;
-          listed = there;
-        }
+    pub writable : {a : List (List ℕ)} {kind index : ℕ} → stands ≡ true → AllAlphas f a → Listed f kind index → Writable f t a kind index
+    writable e known there = record { stands = record { clear = stands_clear e; table = h.table }; alphas = known; listed = there }
 
-    -- the bays at hand are the floor's
-    pub few_bays : Bayed slab.bays
-    few_bays = bayed (sized_of f h.shared)
-
-    pub count_is : {n : ℕ} → n ≡ records_of slab.bays → n ≡ record_count f
-    count_is = counted (sized_of f h.shared)
+    pub in_table : {slab : Slab} {a : List (List ℕ)} {kind index : ℕ} → refusal f ≡ 0 → slab ≡ slab_of f → AllAlphas f a → stands ≡ true
+        → Listed f kind index → InTable f t slab a kind index
+    in_table accepted shared known e there = table_named accepted shared (writable e known there)
 
     pub filled_all : {u : List ℕ} → stands ≡ true → u ≡ named_written f 3 0 t → u ≡ fresh f t
     filled_all e q = q ∙ all_named (stands_clear e)
 
-    pub filled_blank : {u : List ℕ} {n : ℕ} → stands ≡ false → n ≡ records_of slab.bays → u ≡ blanked n t → u ≡ fresh f t
-    filled_blank e n q = q ∙ rw (count_is n) (all_blank (eqb-false (verdict f) 0 (sym h.verdict ∙ e)))
-
 -- by a change of a record that is there, where the verdict before was clear or not
-module _ (f t : List ℕ) (before : Bool) {slab : Slab} {a : List (List ℕ)} {after both : Bool} {kind index : ℕ}
-    (h : Rewriting f t slab a after kind index) (e : both ≡ (before && after)) where
+module _ (f t : List ℕ) (before : Bool) {after both : Bool} {kind index : ℕ} (h : Rewriting f t after kind index) (e : both ≡ (before && after)) where
   after_clear : both ≡ true → after ≡ true
   after_clear q = ((says_and (says_itself before) (says_itself after)).holds (sym e ∙ q)).1
 
-  pub named_in_table : both ≡ true → InTable f t slab a kind index
-  named_in_table q = in_table f t h.judging (after_clear q) h.listed
+  pub named_writable : {a : List (List ℕ)} → both ≡ true → AllAlphas f a → Writable f t a kind index
+  named_writable q known = writable f t h.judging (after_clear q) known h.listed
 
-  pub rewritten_named : {u : List ℕ} → both ≡ true → u ≡ named_written f kind index t → u ≡ rewritten before f kind index t
-  unfolding rewritten
-  rewritten_named q eu = eu ∙ rw (← h.judging.verdict, ← e, q)
-
-  pub rewritten_whole : {u : List ℕ} → both ≡ false → u ≡ fresh f t → u ≡ rewritten before f kind index t
-  unfolding rewritten
-  rewritten_whole q eu = eu ∙ rw (← h.judging.verdict, ← e, q)
+  pub named_in_table : {slab : Slab} {a : List (List ℕ)} → refusal f ≡ 0 → slab ≡ slab_of f → AllAlphas f a → both ≡ true → InTable f t slab a kind index
+  named_in_table accepted shared known q = table_named accepted shared (named_writable q known)
 
 pub loads_there : (f : List ℕ) → Listed f 3 0
 unfolding count_of
 loads_there f = record { there = omega arith }
 
+-- ---- what is written: a record, where both verdicts are clear, or as by a change of the loads, the whole
+
+part_listed : (f : List ℕ) (both : Bool) {kind index k i : ℕ} → Listed f kind index → k ≡ cond both kind 3 → i ≡ cond both index 0 → Listed f k i
+part_listed f true h ek ei = rw (ek, ei) h
+part_listed f false h ek ei = rw (ek, ei) (loads_there f)
+
+pub settling_part : (f t g : List ℕ) (both : Bool) {kind index k i : ℕ} → Settling f t g kind index → k ≡ cond both kind 3 → i ≡ cond both index 0 → Settling f t g k i
+settling_part f t g both h ek ei = record { accepted = h.accepted; table = h.table; governing = h.governing; listed = part_listed f both h.listed ek ei }
+
+pub rewritten_by : (f t : List ℕ) (before stands : Bool) (kind index : ℕ) {k i : ℕ} {u : List ℕ} → stands ≡ is_clear f → k ≡ cond (before && stands) kind 3
+    → i ≡ cond (before && stands) index 0 → u ≡ cond stands (named_written f k i t) (blanked (record_count f) t) → u ≡ rewritten before f kind index t
+unfolding rewritten
+rewritten_by f t true true kind index ec ek ei eu = rw (← ec, ← ek, ← ei) eu
+rewritten_by f t false true kind index ec ek ei eu = eu ∙ rw (ek, ei) (all_named f t (eqb-true (verdict f) 0 (sym ec)))
+rewritten_by f t true false kind index ec ek ei eu = rw (← ec) (eu ∙ all_blank f t (eqb-false (verdict f) 0 (sym ec)))
+rewritten_by f t false false kind index ec ek ei eu = eu ∙ all_blank f t (eqb-false (verdict f) 0 (sym ec))
+
 -- ---- opening
 
-module _ (f : List ℕ) (l : Lent) {number : ℕ} (e : number ≡ open_refusal f l) where
-  pub opened_refused : {a : Answer} → (number ≡ 0 → ⊥) → a ≡ answer number 255 → Opened f l a l
-  opened_refused ne ea = record { answer = ea ∙ rw (← e, ne_eqb number 0 ne); lent = rw (← e, ne_eqb number 0 ne) }
+module _ (f : List ℕ) (l : Lent) where
+  pub opened_refused : (r : Refusal) → number r ≡ open_refusal f l → Opened f l (verdict_answer (Err r)) l
+  opened_refused r e = record { answer = rw (← e, ne_eqb (number r) 0 (not_zero r)); lent = rw (← e, ne_eqb (number r) 0 (not_zero r)) }
 
   -- all records of an accepted floor are settled as by a change of its loads
-  pub opened_settling : number ≡ 0 → Settling f l.table l.governing 3 0
-  opened_settling z =
-      let h = open_parts f l (sym e ∙ z) in
+  pub opened_settling : 0 ≡ open_refusal f l → Settling f l.table l.governing 3 0
+  opened_settling e =
+      let h = open_parts f l (sym e) in
       record { accepted = h.0; table = record { room = h.1.table }; governing = record { room = h.1.governing }; listed = loads_there f }
 
-  pub opened_filled : {v : ℕ} {a : Answer} {l' : Lent} → number ≡ 0 → v ≡ verdict f → l' ≡ afresh f l → a ≡ answer 0 v → Opened f l a l'
-  opened_filled z ev el ea = record { answer = ea ∙ rw (← e, z) (ap (answer 0) ev); lent = rw (← e, z) el }
+  pub opened_filled : {v : ℕ} {l' : Lent} → 0 ≡ open_refusal f l → v ≡ verdict f → l' ≡ afresh f l → Opened f l (verdict_answer (Ok v)) l'
+  opened_filled e ev el = record { answer = rw (← e) (ap (answer 0) ev); lent = rw (← e) el }
 
 -- ---- a change
 
-module _ (f c : List ℕ) (l : Lent) {number : ℕ} (e : number ≡ change_number f l c) where
-  pub changed_refused : {a : Answer} → (number ≡ 0 → ⊥) → a ≡ answer number 255 → Changed f l c a f l
-  changed_refused ne ea =
-      record { answer = ea ∙ rw (← e, ne_eqb number 0 ne); floor = rw (← e, ne_eqb number 0 ne); lent = rw (← e, ne_eqb number 0 ne) }
+module _ (f c : List ℕ) (l : Lent) where
+  pub changed_refused : (r : Refusal) → number r ≡ change_number f l c → Changed f l c (verdict_answer (Err r)) f l
+  changed_refused r e =
+      let z = ne_eqb (number r) 0 (not_zero r) in record { answer = rw (← e, z); floor = rw (← e, z); lent = rw (← e, z) }
 
-  pub changed_takes : number ≡ 0 → TakenChange f c
-  changed_takes z = taken_of f c l (sym e ∙ z)
+  module _ (e : 0 ≡ change_number f l c) where
+    pub changed_takes : TakenChange f c
+    changed_takes = taken_of f c l (sym e)
 
-  pub changed_placed : {r : Ruling} → number ≡ 0 → r ≡ ruling f c → Placed f r.place c
-  changed_placed z er = stores f c er (number_ruled f c er ∙ (change_parts f l c (sym e ∙ z)).0)
+    -- the record that a taken change was put into is there
+    pub changed_settling : {g : List ℕ} {kind index : ℕ} → g ≡ changed f c → kind ≡ change_kind c → index ≡ change_index c
+        → Settling g l.table l.governing kind index
+    changed_settling eg ek ei =
+        let q = changed_takes in
+        record {
+          accepted = rw eg q.left;
+          table = record { room = rw eg (lodged_changed f c l (sym e)).table };
+          governing = record { room = rw eg (lodged_changed f c l (sym e)).governing };
+          listed = record { there = rw (eg, ek, ei, many_kept f c q.held q.fits (change_kind c)) q.fits.index };
+        }
 
-  -- the record that a taken change was put into is there
-  pub changed_settling : {g : List ℕ} {kind index : ℕ} → number ≡ 0 → g ≡ changed f c → kind ≡ change_kind c → index ≡ change_index c
-      → Settling g l.table l.governing kind index
-  changed_settling z eg ek ei =
-      let q = changed_takes z in
-      record {
-        accepted = rw eg q.left;
-        table = record { room = rw eg (lodged_changed f c l (sym e ∙ z)).table };
-        governing = record { room = rw eg (lodged_changed f c l (sym e ∙ z)).governing };
-        listed = record { there = rw (eg, ek, ei, many_kept f c q.held q.fits (change_kind c)) q.fits.index };
-      }
-
-  pub changed_taken : {g : List ℕ} {l' : Lent} {a : Answer} {v : ℕ} → number ≡ 0 → g ≡ changed f c → v ≡ verdict g → l' ≡ remade f c l
-      → a ≡ answer 0 v → Changed f l c a g l'
-  changed_taken z eg ev el ea =
-      record { answer = ea ∙ rw (← e, z) (ap (answer 0) (ev ∙ rw eg)); floor = rw (← e, z) eg; lent = rw (← e, z) el }
+    pub changed_taken : {g : List ℕ} {l' : Lent} {v : ℕ} → g ≡ changed f c → v ≡ verdict g → l' ≡ remade f c l
+        → Changed f l c (verdict_answer (Ok v)) g l'
+    changed_taken eg ev el = record { answer = rw (← e) (ap (answer 0) (ev ∙ rw eg)); floor = rw (← e) eg; lent = rw (← e) el }
 
 -- what is lent, remade by what was read of floor and change
 pub remade_by : (f c : List ℕ) (l : Lent) {g : List ℕ} {l' : Lent} {before kind index : ℕ} → before ≡ verdict f → g ≡ changed f c
@@ -175,18 +172,14 @@ unfolding governed
 all_governed b t g some =
     same_written support_width (beside_at b 3 0) every (support_at b t) (support_at b t) 0 (support_count b) g (λ k _ h. all_beside b 0 some (omega arith)) (λ k _ h. refl)
 
+pub governed_by : (b : Bays) (both : Bool) (t g : List ℕ) (kind index : ℕ) {k i : ℕ} {h : List ℕ} → ((d : Way) → 1 ≤ spans_of b d) → k ≡ cond both kind 3 → i ≡ cond both index 0
+    → h ≡ governed b (beside_at b k i) t g → h ≡ governed b (cond both (beside_at b kind index) every) t g
+governed_by b true t g kind index some ek ei eh = rw (← ek, ← ei) eh
+governed_by b false t g kind index some ek ei eh = eh ∙ rw (ek, ei) (all_governed b t g some)
+
 -- a table of an accepted floor, the slice beside it, and the record changed
 there_along : (f : List ℕ) (kind index : ℕ) → index < many f kind → (d : Way) → kind ≡ span_kind d → index < spans_of (bays_of f) d
 there_along f kind index h d e = rw (spans_are f d, ← span_count f d, ← e) h
-
--- .. or the loads
-pub all_supporting : {b : Bays} {t g : List ℕ} {kind index : ℕ} → Supporting b t g kind index → Supporting b t g 3 0
-all_supporting {b} h =
-    record { bayed = h.bayed; some = h.some; table = h.table; slice = h.slice; index_most = zero-le; there = not_spans }
-  where
-    not_spans : (d : Way) → 3 ≡ span_kind d → 0 < spans_of b d
-    not_spans X e = absurd (omega arith)
-    not_spans Y e = absurd (omega arith)
 
 pub supporting : (f t g : List ℕ) (kind index : ℕ) {slab : Slab} {u : List ℕ} → Settling f t g kind index → slab ≡ slab_of f → length u ≡ length t → Supporting slab.bays u g kind index
 unfolding slab_of record_count

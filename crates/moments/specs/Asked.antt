@@ -2,9 +2,6 @@
 -- Assumes nothing.
 use Rattle.std.specs.Prelude.{ℕ, Bool, List, ◌≡◌}
 use Rattle.floor.specs.Refusal.{refusal}
-use Rattle.lines.specs.declared.slab.Slab.{Slab}
-use Rattle.lines.specs.Slabs.{slab_of}
-use Rattle.lines.specs.Rows.{AllAlphas}
 use Rattle.limits.specs.Limits.{is_clear}
 use Rattle.tables.specs.Places.{record_count}
 use Rattle.plan.specs.Plan.{bays_of}
@@ -20,14 +17,12 @@ pub record Settling (f t g : List ℕ) (kind index : ℕ) : Type 0 where
   pub governing : SupportRoom (support_count (bays_of f)) g
   pub listed : Listed f kind index
 
--- with what its spans share, α of its lines, and whether its verdict is clear
-pub record Judging (f t : List ℕ) (slab : Slab) (a : List (List ℕ)) (stands : Bool) : Type 0 where
-  pub accepted : refusal f ≡ 0
+-- with whether the verdict of the floor is clear
+pub record Judging (f t : List ℕ) (stands : Bool) : Type 0 where
   pub table : Room (record_count f) t
-  pub shared : slab ≡ slab_of f
-  pub alphas : AllAlphas f a
   pub verdict : stands ≡ is_clear f
 
-pub record Rewriting (f t : List ℕ) (slab : Slab) (a : List (List ℕ)) (stands : Bool) (kind index : ℕ) : Type 0 where
-  pub judging : Judging f t slab a stands
+-- and a record of it
+pub record Rewriting (f t : List ℕ) (stands : Bool) (kind index : ℕ) : Type 0 where
+  pub judging : Judging f t stands
   pub listed : Listed f kind index

@@ -7,3 +7,4 @@ pub mod Records
 pub mod Written
 pub mod Cases
 pub mod Chains
+pub mod Ranges

@@ -2,7 +2,7 @@
 -- One text serves "every" (w false) and "some" (w true): a loop that stops early and one that runs to its end differ in w alone.
 --     none, more, found, done     the loop's four places: entry, one turn more, an early answer, its end
 --     until_same                  the same loop, with tests that answer the same
---     at, intro                   a test of every number, taken apart and put together
+--     every, at, intro            a test of every number, taken apart and put together
 --     says-..                     the parts of a test: a law of meaning is one term of these
 --     by_test, by_says, fails     a test whose meaning is known, put to use
 --     says_one                    two tests of one meaning
@@ -63,10 +63,12 @@ until_same w (suc n) p q h = rw (until_same w n p q (λ k l. h k (omega arith)),
 
 -- ---- every number below n
 
+pub every : (w : Bool) (n : ℕ) (p : ℕ → Bool) → All n (λ k. p k ≡ not w) → until w n p ≡ not w
+every w zero p h = none w p
+every w (suc n) p h = rw (← add-one n) (more w n p (every w n p (λ k l. h k (omega arith))) (h n (omega arith)))
+
 pub intro : (n : ℕ) (p : ℕ → Bool) → All n (λ k. p k ≡ true) → all n p ≡ true
-unfolding until
-intro zero p h = refl
-intro (suc n) p h = rw (intro n p (λ k l. h k (omega arith)), h n (omega arith))
+intro = every false
 
 -- ---- what a test says
 

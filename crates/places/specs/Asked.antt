@@ -48,3 +48,11 @@ pub record OneColumn (f : List ℕ) (slab : Slab) (s : List (List ℕ)) (i j : �
   pub surveyed : Surveyed f slab s
   pub y_line : i ≤ bays f X
   pub x_line : j ≤ bays f Y
+
+-- span k along d has one after it; the floor has a column on y line i and x line j
+pub record HasNext (f : List ℕ) (d : Way) (k : ℕ) : Type 0 where
+  pub next : k + 1 < bays f d
+
+pub record HasColumn (f : List ℕ) (i j : ℕ) : Type 0 where
+  pub y_line : i ≤ bays f X
+  pub x_line : j ≤ bays f Y

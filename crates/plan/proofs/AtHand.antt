@@ -7,9 +7,8 @@ use mathlib.Core.Path.{◌≡◌, refl}
 use native.Mathlib.Omega.{arith}
 use native.Mathlib.Nat.{mul-le-mul_right}
 use borrow.Author.Tests.{le-leb, lt-leb}
-use lib.Dec.{ltb, lit≤}
+use lib.Dec.{ltb}
 use Rattle.records.specs.Kinds.{count_of, start_of}
-use Rattle.records.specs.Asked.{Kinded}
 use Rattle.plan.specs.declared.ways.Way.{Way}
 use Rattle.plan.specs.declared.ways.Way.TheVariants.{X, Y}
 use Rattle.plan.specs.declared.read.Bays.{Bays}
@@ -17,10 +16,7 @@ use Rattle.plan.specs.Ways.{pick, span_kind, line_kind, part_of}
 use Rattle.plan.specs.Fields.{le32, part_at}
 use Rattle.plan.specs.Plan.{bays, start, many, value, span, offset}
 use Rattle.plan.proofs.Reading.{read}
-use Rattle.plan.specs.Asked.{Sized, Entries}
-
-pub sized : {f : List ℕ} {x y : ℕ} → (x ≡ bays f X) × (x ≤ 12) → (y ≡ bays f Y) × (y ≤ 12) → Sized f (record { x = x; y = y })
-sized p q = record { is = cc; x = p.0; y = q.0; x_most = p.1; y_most = q.1 }
+use Rattle.plan.specs.Asked.{Sized}
 
 module _ {f : List ℕ} {b : Bays} (h : Sized f b) where
   pub along_is : (d : Way) → pick d b.x b.y ≡ bays f d
@@ -63,34 +59,7 @@ module _ {f : List ℕ} {b : Bays} (h : Sized f b) where
       → r ≡ cond (ltb l (n + 1)) (part_at f (from + l) part) 0 → r ≡ value f (line_kind d) l part
   beam_read d l part ef en er = entry_of (line_kind d) part l _ _ _ (rw ef (lines_start d)) (rw en (lines_many d)) er
 
-  pick_most : (d : Way) {x y m : ℕ} → x ≤ m → y ≤ m → pick d x y ≤ m
-  pick_most X p q = p
-  pick_most Y p q = q
-
-  pub span_listed : (d : Way) {from n : ℕ} → from ≡ pick d 4 (4 + b.x) → n ≡ pick d b.x b.y → Entries from n 1
-  span_listed d ef en =
-      record {
-        first = rw ef (pick_most d (omega arith) (omega (arith, h.x_most)));
-        number = rw en (pick_most d (omega (arith, h.x_most)) (omega (arith, h.y_most)));
-        field = omega arith;
-      }
-
-  pub beam_few : (d : Way) {n : ℕ} → n ≡ pick d b.y b.x → n ≤ 12
-  beam_few d en = rw en (pick_most d h.y_most h.x_most)
-
-  pub beam_listed : (d : Way) (part : ℕ) {from n : ℕ} → part ≤ 3 → from ≡ pick d (4 + b.x + b.y) (5 + b.x + 2 * b.y) → n ≡ pick d b.y b.x
-      → Entries from (n + 1) part
-  beam_listed d part p ef en =
-      record {
-        first = rw ef (pick_most d (omega (arith, h.x_most, h.y_most)) (omega (arith, h.x_most, h.y_most)));
-        number = omega (arith, beam_few d en);
-        field = p;
-      }
-
   -- ---- a column's offset
-
-  pub kind_9 : Kinded b.x b.y 9
-  kind_9 = record { x = h.x_most; y = h.y_most; kind = lit≤ tt }
 
   column_there : (i j : ℕ) → i ≤ b.x → j ≤ b.y → j * (b.x + 1) + i < count_of b.x b.y 9
   unfolding count_of

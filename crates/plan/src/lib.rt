@@ -13,12 +13,14 @@ use fields::{A, B, C, u32_at};
 use records::kinds::{COLUMNS, LOADS, MATERIALS, SIZES};
 use ways::{End, Way};
 
+// 0 for a number out of range, not an Option: `bays` of specs/ reads any bytes, a damaged file as a floor of no bays.
 fn up_to_twelve(n: u32) -> u32
     ensures { (result ≡ up_to_twelve n) × (result ≤ 12) }
 {
     if n <= 12 { n } else { 0 }
 }
 
+#[tactic(auto, unfolding(crate::specs::Plan::bays))]
 pub fn bays(f: &[u8], d: Way) -> u32
     ensures { (result ≡ bays f.now d) × (result ≤ 12) }
 {
@@ -26,6 +28,8 @@ pub fn bays(f: &[u8], d: Way) -> u32
 }
 
 // The one record of kind k, which stands at the same place in every floor.
+// Kind and part are numbers, not enums: its place is worked out from both, as `value` of specs/ does.
+#[tactic(auto, using(crate::proofs::Reading::one_record))]
 fn single(f: &[u8], k: u32, part: u32) -> u32
     requires { Single k part }
     ensures { result ≡ value f.now k 0 part }
@@ -69,6 +73,7 @@ pub fn column(f: &[u8], d: Way) -> u32
     single(f, COLUMNS, ways::part_of(d))
 }
 
+// The code of a side. A number, not an enum: 3 is none of 01's, and a file that is not accepted may hold it.
 pub fn side(f: &[u8], d: Way, e: End) -> u32
     ensures { (result ≡ side f.now d e) × (result < 4) }
 {

@@ -1,15 +1,17 @@
 -- What stands for all that a reader gave so far.
 -- Assumes nothing.
-use Prim.Native.Nat.{ℕ, ◌+◌}
+use Prim.Native.Nat.{ℕ, ◌+◌, ◌≤◌, min}
+use mathlib.Core.Bool.{false}
+use native.Mathlib.Omega.{arith}
 use mathlib.Core.List.{List, [], ◌++◌, append-nil}
 use mathlib.Core.Path.{◌≡◌, sym, ap, subst, ◌∙◌}
 use lib.ListN.{take, drop}
 use Rattle.std.specs.declared.option.Option.{Option}
-use Rattle.std.specs.Prelude.{None, Some, IfSome}
+use Rattle.std.specs.Prelude.{None, Some, IfSome, Result, Ok, Err, OnOk, eqb}
 use Rattle.std.specs.Io.KnownBytes.{Appends, Consumes, IsAtEnd}
 use Rattle.std.proofs.KnownBytes.{Consumes-nil, Consumes-trans}
 use Rattle.sheets.proofs.Growing.{grew_as}
-use Rattle.print.specs.Input.{stand_in, Stands, ReadOn}
+use Rattle.print.specs.Input.{stand_in, got_of, after_read, Stands, ReadOn}
 use Rattle.print.specs.Sheet.{sheet_text, blank}
 use Rattle.print.proofs.Kept.{stands_none, stands_more, same_sheet}
 
@@ -31,6 +33,11 @@ one_more a left left' b b' n m n' e s read gave = record {
   stand = subst (Stands (s.given ++ take m (drop n b')) b') (sym e) (stands_more s.stand read);
 }
 
+-- what is known after a read that went well and gave m bytes, of `most` that it was handed: the end is where it gave none
+pub went_well : (E : Type 0) (n m most : ℕ) → m ≤ most
+    → after_read n (got_of {E = E} (Ok m) most) ≡ record { bytes = stand_in (n + m); ended = eqb m 0; failed = false }
+went_well E n m most h = let e : min m most ≡ m = omega arith in rw e
+
 -- of a reader that is at its end, all that it had
 pub all_of : (a left : Option (List ℕ)) (b : List ℕ) (n : ℕ) → SoFar a left b n → IsAtEnd left → IfSome a (λ f. Stands f b n)
 all_of None left b n s e = tt
@@ -43,3 +50,9 @@ pub same_text : (a x y : Option (List ℕ)) (b : List ℕ) (n : ℕ) → IfSome 
     → IfSome a (λ f. Appends x y (sheet_text f blank))
 same_text None x y b n s h = tt
 same_text (Some f) x y b n s h = grew_as x y (same_sheet s blank) h
+
+-- of a sheet that was written where r went well
+pub text_where_ok : {T E : Type 0} (r : Result T E) (a x y : Option (List ℕ)) (b : List ℕ) (n : ℕ) → IfSome a (λ f. Stands f b n) → OnOk r (Appends x y (sheet_text (take n b) blank))
+    → OnOk r (IfSome a (λ f. Appends x y (sheet_text f blank)))
+text_where_ok (Ok t) a x y b n s h = same_text a x y b n s h
+text_where_ok (Err e) a x y b n s h = tt

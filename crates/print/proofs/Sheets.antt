@@ -31,7 +31,9 @@ use Rattle.moments.specs.Lent.{Lent, lent}
 use Rattle.moments.specs.Tables.{fresh, afresh, room_checks, Lodged}
 use Rattle.moments.specs.Opening.{open_checks, open_refusal, Opened}
 use Rattle.moments.proofs.Room.{open_whole}
-use Rattle.answers.specs.Answers.{answered}
+use Rattle.answers.specs.Answers.{answered, verdict_answer}
+use Rattle.answers.specs.declared.Refusal.{Refusal}
+use Rattle.std.specs.Prelude.{Result}
 use Rattle.print.specs.Sheet.{answer_of, first_line, record_lines, sheet_text, Began, Space}
 use Rattle.print.specs.declared.Start.{Start}
 
@@ -39,6 +41,10 @@ use Rattle.print.specs.declared.Start.{Start}
 not_refused : (number v : ℕ) → (answered number v).value ≡ 0 → number ≡ 0
 not_refused number v =
     by_test (λ (a : Answer). a.value ≡ 0 → number ≡ 0) (says_eq number 0) (λ z _. z) (λ _ e. absurd (omega arith))
+
+-- what C sees of the outcome is what is printed
+pub opened_as : {f : List ℕ} {l u : Lent} {a : Answer} (r : Result ℕ Refusal) → a ≡ verdict_answer r → Opened f l (verdict_answer r) u → Opened f l a u
+opened_as r e o = rw e o
 
 module _ {f : List ℕ} {l u : Lent} {a : Answer} {old mid : List ℕ} {m : ℕ} (o : Opened f l a u)
     (w : Wrote old 0 (line (a.refusal ∷ a.value ∷ [])) mid m) where

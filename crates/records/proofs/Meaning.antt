@@ -6,12 +6,12 @@
 use Prim.Native.Nat.{ℕ, ◌+◌, ◌*◌, ◌%◌, ◌/◌, ◌≤◌}
 use mathlib.Core.Bool.{Bool, true, false, cond, ◌&&◌, false≢true}
 use mathlib.Core.Logic.{◌⊎◌, inl, inr, ⊎_elim}
-use mathlib.Core.Path.{◌≡◌, refl, sym}
+use mathlib.Core.Path.{◌≡◌, refl}
 use native.Mathlib.Nat.{div-div-eq-div-mul}
 use native.Mathlib.Omega.{arith}
 use lib.Dec.{eqb}
 use Rattle.numbers.specs.Tests.{Says, within}
-use Rattle.numbers.proofs.Tests.{says_le, says_eq, says_and, says_and3, says_or, says_as, says_always, says_never, fails}
+use Rattle.numbers.proofs.Tests.{says_le, says_eq, says_and, says_and3, says_or, says_as, says_always, says_never}
 use Rattle.records.specs.Kinds.{by_kind, unlisted_zero, changeable}
 use Rattle.records.specs.Ranges.{sizes_ok, materials_ok, loads_ok, column_ok, sides_ok, columns_ok, span_ok, beam_ok, offset_ok, values_ok}
 use Rattle.records.specs.Meaning.{In, Sizes, Materials, Loads, Column, Sides, Columns, Span, Beam, Offset, InRange, Zero, Changeable}
@@ -63,10 +63,6 @@ unfolding sides_ok
 says_sides s =
     says_as (λ h. (h.0, h.1, h.2.0, h.2.1, h.2.2)) (λ h. (h.0, h.1, (h.2, h.3, h.4)))
     (says_and3 (says_le s 170) (says_le (s % 4) 2) (says_and3 (says_le (s / 4 % 4) 2) (says_le (s / 16 % 4) 2) (says_le (s / 64 % 4) 2)))
-
--- the code's early ways out
-pub sides_out : (s : ℕ) → (Sides s → ⊥) → false ≡ sides_ok s
-sides_out s out = sym (fails (says_sides s) out)
 
 pub says_columns : (cx cy sides : ℕ) → Says (columns_ok cx cy sides) (Columns cx cy sides)
 unfolding columns_ok

@@ -1,7 +1,7 @@
 -- A piece has some of the records that are left, no more than that, and fits; what is sent of a buffer is the text written there; of what was
 -- not taken whole nothing is promised.
 -- Assumes nothing.
-use Prim.Native.Nat.{ℕ, ◌*◌, ◌/◌, ◌≤◌, zero-le}
+use Prim.Native.Nat.{ℕ, ◌*◌, ◌/◌, ◌≤◌, min, zero-le}
 use mathlib.Core.Bool.{false, false≢true}
 use mathlib.Core.List.{List}
 use mathlib.Core.Path.{◌≡◌, sym, subst, ◌∙◌}
@@ -10,9 +10,8 @@ use native.Mathlib.Nat.{div-mul-le_self, le-div_iff_mul-le}
 use native.Mathlib.Omega.{arith}
 use borrow.Author.Tests.{lt-ltb, le-ltb}
 use lib.ListN.{take}
-use Rattle.sheets.specs.declared.pieces.Sent.{Sent}
 use Rattle.sheets.specs.Wrote.{Wrote}
-use Rattle.sheets.specs.Pieces.{piece, Printed}
+use Rattle.sheets.specs.Pieces.{piece, Sent, Printed}
 use Rattle.sheets.proofs.Writing.{wrote_there}
 
 -- what holds of either number that a piece can have
@@ -23,6 +22,10 @@ by_piece P w left few many =
       | yes h ↦ rw (le-ltb left (5957 / w) h) (many h)
       | no h ↦ rw (lt-ltb left (5957 / w) (omega (arith, h))) (few (omega (arith, h)))
     ]
+
+-- it is the lesser of the two
+pub piece_is : (w left : ℕ) → min left (5957 / w) ≡ piece w left
+piece_is w left = by_piece (λ m. min left (5957 / w) ≡ m) w left (λ h. omega arith) (λ h. omega arith)
 
 module _ (w left n : ℕ) (e : n ≡ piece w left) (some : 1 ≤ w) where
   pub piece_some : w ≤ 5957 → 1 ≤ left → 1 ≤ n

@@ -4,7 +4,7 @@
 ghost use Rattle.std.specs.Prelude.{◌≡◌, ◌*◌, ◌≤◌, true, length, drop};
 ghost use Rattle.std.specs.Io.KnownBytes.{Appends};
 ghost use Rattle.sheets.specs.Text.{lines};
-ghost use Rattle.sheets.specs.Pieces.{piece, Piece, Sheet, Printed};
+ghost use Rattle.sheets.specs.Pieces.{piece, Piece, Sheet, sent, Printed};
 
 use crate::rows;
 use std::io::Write;
@@ -17,42 +17,37 @@ fn fitting(width: usize, left: usize) -> usize
     requires { 1 ≤ width }
     ensures { result ≡ piece width left }
 {
-    let most = NUMBERS / width;
-    if left < most { left } else { most }
+    left.min(NUMBERS / width)
 }
 
-// What went to the writer: whether every write took all that it was handed, and how many bytes those were.
+// A write that failed: how many bytes were handed to the writer up to it.
 #[derive(Clone, Copy)]
-pub struct Sent {
-    pub whole: bool,
+pub struct CutOff {
     pub bytes: usize,
 }
 
-// Writes a text. Whether it was all taken is the write's answer, of which no contract speaks; after an error it was not.
-pub fn send<W: Write>(out: &mut W, text: &[u8]) -> Sent
-    ensures printed { Printed text.now result × (result.bytes ≤ length text.now) }
-    ensures taken { result.whole ≡ true → Appends (W.contents out.old) (W.contents out.new) text.now }
+// Writes a text, and answers how many bytes it has. Whether it was all taken is the write's answer, of which no contract speaks.
+pub fn send<W: Write>(out: &mut W, text: &[u8]) -> Result<usize, CutOff>
+    ensures printed { Printed text.now (sent result) × ((sent result).bytes ≤ length text.now) }
+    ensures taken { (sent result).whole ≡ true → Appends (W.contents out.old) (W.contents out.new) text.now }
 {
-    Sent {
-        whole: match out.write_all(text) {
-            Ok(()) => true,
-            Err(_) => false,
-        },
-        bytes: text.len(),
+    match out.write_all(text) {
+        Ok(()) => Ok(text.len()),
+        Err(_) => Err(CutOff { bytes: text.len() }),
     }
 }
 
-// Writes `count` records from record `first` on.
+// Writes `count` records from record `first` on. Their text is the first bytes of a buffer of fixed size: there is no heap.
 fn write_piece<W: Write>(
     out: &mut W,
     table: &[u32],
     width: usize,
     first: usize,
     count: usize,
-) -> Sent
+) -> Result<usize, CutOff>
     requires { Piece table.now width first count }
-    ensures printed { Printed (lines width count (drop (first * width) table.now)) result × (result.bytes ≤ 11 * (count * width)) }
-    ensures taken { result.whole ≡ true → Appends (W.contents out.old) (W.contents out.new) (lines width count (drop (first * width) table.now)) }
+    ensures printed { Printed (lines width count (drop (first * width) table.now)) (sent result) × ((sent result).bytes ≤ 11 * (count * width)) }
+    ensures taken { (sent result).whole ≡ true → Appends (W.contents out.old) (W.contents out.new) (lines width count (drop (first * width) table.now)) }
 {
     let mut text = io::large_buffer();
     let end = rows(table, width, first, count, &mut text);
@@ -60,27 +55,29 @@ fn write_piece<W: Write>(
 }
 
 // Writes the first `count` records of `width` numbers of the table, each as a line, up to a write that fails.
-pub fn write_rows<W: Write>(out: &mut W, table: &[u32], width: usize, count: usize) -> Sent
+pub fn write_rows<W: Write>(
+    out: &mut W,
+    table: &[u32],
+    width: usize,
+    count: usize,
+) -> Result<usize, CutOff>
     requires { Sheet table.now width count }
-    ensures printed { Printed (lines width count table.now) result × (result.bytes ≤ 11 * (count * width)) }
-    ensures taken { result.whole ≡ true → Appends (W.contents out.old) (W.contents out.new) (lines width count table.now) }
+    ensures printed { Printed (lines width count table.now) (sent result) × ((sent result).bytes ≤ 11 * (count * width)) }
+    ensures taken { (sent result).whole ≡ true → Appends (W.contents out.old) (W.contents out.new) (lines width count table.now) }
 {
     let mut total: usize = 0;
     let mut done: usize = 0;
+    // Not a `for`: a turn takes as many records as `fitting` answers.
     while done < count {
         let n = fitting(width, count - done);
-        let piece = write_piece(out, table, width, done, n);
-        total += piece.bytes;
-        if !piece.whole {
-            return Sent {
-                whole: false,
-                bytes: total,
-            };
+        match write_piece(out, table, width, done, n) {
+            Ok(bytes) => total += bytes,
+            Err(cut) => {
+                let bytes = total + cut.bytes;
+                return Err(CutOff { bytes });
+            }
         }
         done += n;
     }
-    Sent {
-        whole: true,
-        bytes: total,
-    }
+    Ok(total)
 }

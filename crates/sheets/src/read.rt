@@ -12,6 +12,7 @@ pub fn read_full<R: Read>(input: &mut R, bytes: &mut [u8]) -> Result<usize>
     ensures end { IfOk result (λ n. n < length bytes.new → IsAtEnd (R.remaining input.new)) }
 {
     let mut done: usize = 0;
+    // Not a `for`: each turn moves on by as many bytes as came.
     while done < bytes.len() {
         let n = input.read(&mut bytes[done..])?;
         if n == 0 {

@@ -3,6 +3,7 @@
 use Rattle.std.specs.Prelude.{ℕ, cond, List, [], ◌∷◌, ◌++◌, eqb}
 use Rattle.layouts.specs.declared.Layout.{Layout}
 use Rattle.stiffness.specs.Sections.{edge_torsion}
+use Rattle.strips.specs.declared.endspan.SpanPlace.{SpanPlace}
 use Rattle.strips.specs.declared.endspan.SpanPlace.TheVariants.{OuterEnd, Between, InnerEnd}
 use Rattle.strips.specs.declared.strip.Strips.{Strips}
 use Rattle.strips.specs.EndTable.{section_total, inner_percent, end_percent}
@@ -24,6 +25,11 @@ first_span code layout =
 abbrev pub last_span : ℕ → Layout → Percents
 last_span code layout =
     record { low = end_percent code layout InnerEnd; between = end_percent code layout Between; high = end_percent code layout OuterEnd }
+
+-- either, by the places that its low and its high section have from the outer end
+abbrev pub end_span : ℕ → Layout → SpanPlace → SpanPlace → Percents
+end_span code layout low high =
+    record { low = end_percent code layout low; between = end_percent code layout Between; high = end_percent code layout high }
 
 abbrev pub inner_span : Percents
 inner_span = record { low = inner_percent InnerEnd; between = inner_percent Between; high = inner_percent InnerEnd }

@@ -1,6 +1,6 @@
 -- What span s of line l along d reads from the floor: the numbers that its record is worked out from, and no others.
 -- Assumes nothing.
-use Rattle.std.specs.Prelude.{ℕ, ◌+◌, true, false, cond, List, eqb}
+use Rattle.std.specs.Prelude.{ℕ, ◌+◌, Bool, true, false, cond, List, eqb}
 use Rattle.plan.specs.declared.ways.Way.{Way}
 use Rattle.plan.specs.declared.ways.End.{End}
 use Rattle.plan.specs.declared.ways.End.TheVariants.{Low, High}
@@ -42,6 +42,10 @@ outer_end f d e =
 
 abbrev pub inner_end : EndView
 inner_end = record { outer = false; code = 0; width = 0; depth = 0 }
+
+-- either
+abbrev pub end_view : List ℕ → Way → End → Bool → EndView
+end_view f d e outer = cond outer (outer_end f d e) inner_end
 
 -- the first span's low end and the last span's high end are outer ends
 unfoldable pub low_end : List ℕ → Way → ℕ → EndView

@@ -1,6 +1,6 @@
 // The record of a span: Mo, then low end, between, high end, each as total, column, middle, beam, slab.
 ghost use Rattle.std.specs.Prelude.{◌≡◌, ◌≤◌};
-ghost use Rattle.spans.specs.Record.{first_span, last_span, inner_span, percents_of, outer_part, end_strips, between_strips, in_order, record_of};
+ghost use Rattle.spans.specs.Record.{end_span, inner_span, percents_of, outer_part, end_strips, between_strips, in_order, record_of};
 ghost use Rattle.spans.specs.Asked.{WorkedEnd, AtEnd, AtSection, WorkableSpan};
 
 use crate::view::{EndView, View};
@@ -12,7 +12,7 @@ use strips::span::torsion_ratio;
 use strips::strip::{Strips, between, by_part, evenly, inner_negative, outer_negative};
 use tables::write::WIDTH;
 
-// The code of a side that is fully restrained.
+// The code of a side that is fully restrained. Codes are numbers, not an enum: C's format and `percents_of` of specs/ speak of any number.
 const FULLY_RESTRAINED: u32 = 2;
 
 // p at the low end, between and at the high end.
@@ -23,24 +23,14 @@ pub struct Percents {
     pub high: u64,
 }
 
-// In a span whose low end is an outer end with this code; and in one whose high end is.
-fn first_span(code: u32, layout: Layout) -> Percents
-    ensures { result ≡ first_span code layout }
+// In a span with an outer end with this code, from which each section has its place.
+fn end_span(code: u32, layout: Layout, low: SpanPlace, high: SpanPlace) -> Percents
+    ensures { result ≡ end_span code layout low high }
 {
     Percents {
-        low: end_percent(code, layout, SpanPlace::OuterEnd),
+        low: end_percent(code, layout, low),
         between: end_percent(code, layout, SpanPlace::Between),
-        high: end_percent(code, layout, SpanPlace::InnerEnd),
-    }
-}
-
-fn last_span(code: u32, layout: Layout) -> Percents
-    ensures { result ≡ last_span code layout }
-{
-    Percents {
-        low: end_percent(code, layout, SpanPlace::InnerEnd),
-        between: end_percent(code, layout, SpanPlace::Between),
-        high: end_percent(code, layout, SpanPlace::OuterEnd),
+        high: end_percent(code, layout, high),
     }
 }
 
@@ -60,10 +50,10 @@ fn percents_of(layout: Layout, low: EndView, high: EndView) -> Percents
     let first = low.outer;
     let last = high.outer;
     if first {
-        return first_span(low.code, layout);
+        return end_span(low.code, layout, SpanPlace::OuterEnd, SpanPlace::InnerEnd);
     }
     if last {
-        return last_span(high.code, layout);
+        return end_span(high.code, layout, SpanPlace::InnerEnd, SpanPlace::OuterEnd);
     }
     inner_span()
 }
@@ -106,6 +96,7 @@ fn between_strips(w: SpanWork, percent: u64) -> Strips
     by_part(total, between(a, w.r), a)
 }
 
+// In the order of the table's record. No From: the three sections are of one type, and are told apart by their names.
 fn in_order(moment: u32, low: Strips, middle: Strips, high: Strips) -> [u32; WIDTH]
     ensures { result ≡ in_order moment low middle high }
 {

@@ -1,19 +1,18 @@
 // What the record of a span is worked out from, and nothing else: two floors that read alike here have the same record.
 ghost use Rattle.std.specs.Prelude.{◌≡◌};
 ghost use Rattle.plan.specs.Plan.{span};
-ghost use Rattle.plan.specs.Asked.{Sized};
 ghost use Rattle.lines.specs.Slabs.{slab_of};
-ghost use Rattle.spans.specs.Views.{line_view, end_line, outer_end, inner_end, low_end, high_end};
-ghost use Rattle.spans.specs.Asked.{SizedSpan, SlabbedSpan};
+ghost use Rattle.spans.specs.Views.{line_view, end_line, end_view, low_end, high_end};
+ghost use Rattle.spans.specs.Asked.{SlabbedSpan};
 
 use layouts::outer_line;
 use lines::line::below;
 use lines::slab::Slab;
-use plan::read;
-use plan::read::Bays;
+use plan::read::{Bays, Plan, along};
 use plan::ways::{End, Way, across, pick};
 
 // Of its line: the spans on either side, 0 past an outer line, the column along and across, and the beam, of width 0 where there is none.
+// No Options: the widths of 01 are sums over both sides, and `frame_width`, `transverse_span` and `alpha` of specs/ speak of the zeros.
 #[derive(Clone, Copy)]
 pub struct LineView {
     pub outer: bool,
@@ -25,7 +24,9 @@ pub struct LineView {
     pub depth: u32,
 }
 
-// Of an end: at an outer line, the code of that side and the beam there; otherwise zeros.
+// Of an end: at an outer line, the code of that side and the beam there; otherwise zeros. It is no Option: `WorkableEnd`, `unrestrained` and
+// `torsion_of` of specs/ speak of these numbers at either kind of end.
+// Its beam lies across the frame and a line's along it: a type of width and depth for both would save no line.
 #[derive(Clone, Copy)]
 pub struct EndView {
     pub outer: bool,
@@ -44,19 +45,24 @@ pub struct View {
     pub high: EndView,
 }
 
+// Of a floor whose slab is at hand. It is taken apart, not as a `Floor`, which would ask that the floor is accepted.
 pub fn line_view(f: &[u8], slab: Slab, d: Way, l: u32) -> LineView
     requires { slab ≡ slab_of f.now }
     ensures { result ≡ line_view f.now d l }
 {
+    let plan = Plan {
+        bytes: f,
+        bays: slab.bays,
+    };
     let over = across(d);
     LineView {
-        outer: outer_line(read::along(slab.bays, over), l),
+        outer: outer_line(along(slab.bays, over), l),
         below: below(f, slab.bays, d, l),
-        above: read::span(f, slab.bays, over, l),
+        above: plan.span(over, l),
         along: pick(d, slab.cx, slab.cy),
         across: pick(over, slab.cx, slab.cy),
-        width: read::beam_width(f, slab.bays, d, l),
-        depth: read::beam_depth(f, slab.bays, d, l),
+        width: plan.beam_width(d, l),
+        depth: plan.beam_depth(d, l),
     }
 }
 
@@ -66,54 +72,30 @@ fn end_line(b: Bays, d: Way, e: End) -> u32
 {
     match e {
         End::Low => 0,
-        End::High => read::along(b, d),
+        End::High => along(b, d),
     }
 }
 
-fn outer_end(f: &[u8], b: Bays, d: Way, e: End) -> EndView
-    requires { Sized f.now b }
-    ensures { result ≡ outer_end f.now d e }
+// End e of a span along d: an outer end where no span follows on that side.
+fn end_view(plan: Plan, d: Way, e: End, outer: bool) -> EndView
+    ensures { result ≡ end_view plan.entry.bytes.now d e outer }
 {
-    let over = across(d);
-    let l = end_line(b, d, e);
-    EndView {
-        outer: true,
-        code: plan::side(f, d, e),
-        width: read::beam_width(f, b, over, l),
-        depth: read::beam_depth(f, b, over, l),
-    }
-}
-
-fn inner_end() -> EndView
-    ensures { result ≡ inner_end }
-{
-    EndView {
-        outer: false,
-        code: 0,
-        width: 0,
-        depth: 0,
-    }
-}
-
-fn low_end(f: &[u8], b: Bays, d: Way, s: u32) -> EndView
-    requires { Sized f.now b }
-    ensures { result ≡ low_end f.now d s }
-{
-    if s == 0 {
-        outer_end(f, b, d, End::Low)
+    if outer {
+        let over = across(d);
+        let l = end_line(plan.bays, d, e);
+        EndView {
+            outer,
+            code: plan::side(plan.bytes, d, e),
+            width: plan.beam_width(over, l),
+            depth: plan.beam_depth(over, l),
+        }
     } else {
-        inner_end()
-    }
-}
-
-fn high_end(f: &[u8], b: Bays, d: Way, s: u32) -> EndView
-    requires { SizedSpan f.now b s }
-    ensures { result ≡ high_end f.now d s }
-{
-    if s + 1 == read::along(b, d) {
-        outer_end(f, b, d, End::High)
-    } else {
-        inner_end()
+        EndView {
+            outer,
+            code: 0,
+            width: 0,
+            depth: 0,
+        }
     }
 }
 
@@ -122,11 +104,15 @@ pub fn span_view(f: &[u8], slab: Slab, line: LineView, d: Way, s: u32) -> View
     requires { SlabbedSpan f.now slab s }
     ensures { result ≡ record { slab = slab; line = line; l1 = span f.now d s; low = low_end f.now d s; high = high_end f.now d s } }
 {
+    let plan = Plan {
+        bytes: f,
+        bays: slab.bays,
+    };
     View {
         slab,
         line,
-        l1: read::span(f, slab.bays, d, s),
-        low: low_end(f, slab.bays, d, s),
-        high: high_end(f, slab.bays, d, s),
+        l1: plan.span(d, s),
+        low: end_view(plan, d, End::Low, s == 0),
+        high: end_view(plan, d, End::High, s + 1 == along(slab.bays, d)),
     }
 }

@@ -15,7 +15,9 @@ pub struct LineWork {
     pub alpha: u64,
 }
 
-// Mo, A, R and wc of a span, and what else its sections need.
+// Mo, A, R and wc of a span, and what else its sections need. Their ranges are asked (`Worked`) and not a ghost field: `Works: span_work` makes
+// one of any view, workable or not.
+// Its line's width and l2 stand here once more and not as a `LineWork`: no section needs the line's α, and `span_work` of specs/ has seven numbers.
 #[derive(Clone, Copy)]
 pub struct SpanWork {
     pub moment: u64,

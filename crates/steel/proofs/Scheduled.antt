@@ -1,15 +1,14 @@
 -- The answer of the schedule, by the number that is given.
 --     floor_refuses, not_clear, too_short, no_bars, all_good     which number is given
---     given_first, passed_first                                  16 and 15, as the code tries them
---     refused_is, scheduled_is                                   the answer and the buffer by that number
+--     refused_is, scheduled_is, refused_floor                    the answer and the buffer by that number
+--     sixteen, fifteen, has_room                                 16 and 15, of the floor that was surveyed
 -- Assumes nothing.
-use Prim.Native.Nat.{ℕ, suc, ◌*◌, ◌≤◌}
-use mathlib.Core.Bool.{true, false, cond}
+use Prim.Native.Nat.{ℕ, ◌*◌, ◌≤◌, ◌<◌}
+use mathlib.Core.Bool.{true, false}
 use mathlib.Core.List.{List, [], ◌∷◌}
-use mathlib.Core.Path.{◌≡◌, refl, sym, ◌∙◌}
-use native.Mathlib.Decide.{ℕ_discrete, dec_le}
+use mathlib.Core.Path.{◌≡◌, refl, sym, ap, ◌∙◌}
 use native.Mathlib.Omega.{arith}
-use lib.Dec.{leb, eqb}
+use lib.Dec.{leb}
 use lib.ListN.{length}
 use borrow.Author.Tests.{ne_eqb, le-leb, lt-leb, eq-eqb}
 use Rattle.numbers.specs.Chains.{tried}
@@ -17,9 +16,12 @@ use Rattle.numbers.specs.Chains.Check.{◌unless◌says◌}
 use Rattle.numbers.proofs.Chains.{stands, decides, stopped, went_on, ended}
 use Rattle.floor.specs.Refusal.{floor_checks, refusal}
 use Rattle.floor.proofs.Meaning.{sound_floor}
-use Rattle.answers.specs.Answers.{answer}
+use Rattle.answers.specs.declared.Refusal.{Refusal}
+use Rattle.answers.specs.Answers.{answer, number}
+use Rattle.answers.proofs.Refusals.{positive}
 use Rattle.limits.specs.Limits.{verdict, is_clear}
 use Rattle.tables.specs.Places.{record_count}
+use Rattle.steel.specs.Asked.{Roomy}
 use Rattle.steel.specs.Barred.{AllBarred}
 use Rattle.steel.specs.Schedule.{schedule_count, schedule_length, all_barred, scheduled, schedule_checks, schedule_number, schedule_answer, schedule_left, Scheduled}
 
@@ -56,39 +58,7 @@ module _ (f : List ℕ) (n : ℕ) where
         pub all_good : all_barred f ≡ true → 0 ≡ schedule_number f n
         all_good h = last (went_on 17 (all_barred f) (AllBarred f) [] h ended)
 
--- ---- as the code tries 16 and 15
-
-module _ (f : List ℕ) (n : ℕ) (e : refusal f ≡ 0) {v count m : ℕ} (ev : v ≡ verdict f) (ec : count ≡ record_count f)
-    (em : m ≡ cond (eqb v 0) (cond (leb (count * 192) n) 0 15) 16) where
-  length_is : schedule_length f ≡ count * 192
-  length_is = omega (arith, ec)
-
-  pub given_first : ¬ (m ≡ 0) → m ≡ schedule_number f n
-  given_first h =
-      elim (ℕ_discrete v 0) [
-        | no z ↦ em ∙ rw (ne_eqb v 0 z) (not_clear f n e (λ y. z (ev ∙ y)))
-        | yes z ↦
-            elim (dec_le (count * 192) n) [
-              | yes room ↦ absurd (h (em ∙ rw (eq-eqb v 0 z, le-leb (count * 192) n room)))
-              | no short ↦
-                  em ∙ rw (eq-eqb v 0 z, lt-leb (count * 192) n (omega (arith, short)))
-                  (too_short f n e (sym ev ∙ z) (λ room. short (omega (arith, room, length_is))))
-            ]
-      ]
-
-  pub passed_first : m ≡ 0 → (verdict f ≡ 0) × (schedule_length f ≤ n)
-  passed_first h =
-      elim (ℕ_discrete v 0) [
-        | no z ↦ absurd (above {x = 15} (sym h ∙ em ∙ rw (ne_eqb v 0 z)))
-        | yes z ↦
-            elim (dec_le (count * 192) n) [
-              | yes room ↦ (sym ev ∙ z, rw ec at room)
-              | no short ↦ absurd (above {x = 14} (sym h ∙ em ∙ rw (eq-eqb v 0 z, lt-leb (count * 192) n (omega (arith, short)))))
-            ]
-      ]
-    where
-      above : {x : ℕ} → 0 ≡ suc x → ⊥
-      above x = omega (arith, x)
+-- ---- the answer and the buffer
 
 module _ (f t : List ℕ) where
   pub refused_is : {m : ℕ} → m ≡ schedule_number f (length t) → ¬ (m ≡ 0) → Scheduled f t (answer m 0) t
@@ -98,3 +68,26 @@ module _ (f t : List ℕ) where
   pub scheduled_is : 0 ≡ schedule_number f (length t) → Scheduled f t (answer 0 (schedule_count f)) (scheduled f t)
   unfolding schedule_answer schedule_left
   scheduled_is e = record { answer = rw (← e); schedule = rw (← e) }
+
+  -- of a floor that is refused
+  pub refused_floor : (r : Refusal) → number r ≡ refusal f → Scheduled f t (answer (number r) 0) t
+  refused_floor r e = let n : ¬ (number r ≡ 0) = λ z. omega (arith, positive r, z) in refused_is (floor_refuses f (length t) e n) n
+
+-- of the floor that was surveyed, which is f
+module _ (f t : List ℕ) {g : List ℕ} (same : g ≡ f) (accepted : refusal f ≡ 0) {sum count : ℕ} (ev : sum ≡ verdict g) (ec : count ≡ record_count g) where
+  room_is : schedule_length g ≡ count * 192
+  room_is = omega (arith, ec)
+
+  clear_f : sum ≡ 0 → verdict f ≡ 0
+  clear_f z = sym (ev ∙ ap verdict same) ∙ z
+
+  pub sixteen : ¬ (sum ≡ 0) → Scheduled f t (answer 16 0) t
+  sixteen n = refused_is f t (not_clear f (length t) accepted (λ z. n (ev ∙ ap verdict same ∙ z))) (omega arith)
+
+  pub fifteen : sum ≡ 0 → length t < count * 192 → Scheduled f t (answer 15 0) t
+  fifteen z short =
+      let long : schedule_length f ≡ count * 192 = sym (ap schedule_length same) ∙ room_is in
+      refused_is f t (too_short f (length t) accepted (clear_f z) (λ h. omega (arith, h, short, long))) (omega arith)
+
+  pub has_room : count * 192 ≤ length t → Roomy g t
+  has_room h = record { room = omega (arith, h, room_is) }

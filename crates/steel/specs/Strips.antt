@@ -1,7 +1,7 @@
 -- 02, Five as amended by Six: a strip of a section of a span, and its record of the schedule. A span has six strips, q from 0 to 5: of section q / 2, the column strip
 -- where q is even and the middle strip where it is odd.
 -- Assumes nothing.
-use Rattle.std.specs.Prelude.{ℕ, ◌+◌, ◌-◌, ◌/◌, ◌%◌, Bool, cond, not, List, eqb, get_or}
+use Rattle.std.specs.Prelude.{ℕ, ◌+◌, ◌-◌, ◌/◌, ◌%◌, Bool, cond, not, List, eqb, get_or, Option, Some, None}
 use Rattle.numbers.specs.Tests.{all}
 use Rattle.plan.specs.declared.ways.Way.{Way}
 use Rattle.plan.specs.Ways.{pick}
@@ -78,6 +78,10 @@ reinforcement_of query =
     cond (eqb query.b 0) nothing
     (cond (eqb (steel_of query).refusal 0) (laid (steel_of query).value (bars_for query.b (steel_of query).value query.t)) nothing)
 
+-- that steel where it has bars
+abbrev pub if_reinforced : Reinforcement → Option Reinforcement
+if_reinforced r = cond (eqb r.diameter 0) None (Some r)
+
 -- ---- the record
 
 unfoldable pub entry_of : Span → Materials → ℕ → ℕ → Entry
@@ -95,6 +99,9 @@ entry_of s m k q =
 
 abbrev pub has_bars : Entry → Bool
 has_bars e = not (eqb e.diameter 0)
+
+abbrev pub if_barred : Entry → Option Entry
+if_barred e = cond (eqb e.diameter 0) None (Some e)
 
 -- every strip of the span has its bars
 abbrev pub span_barred : Span → Materials → ℕ → Bool

@@ -8,20 +8,20 @@ mod search;
 mod strip;
 
 ghost use Rattle.std.specs.Prelude.{◌≡◌};
+ghost use Rattle.answers.specs.Answers.{query_answer};
 ghost use Rattle.steel.specs.Steel.{steel_of};
 
-use answers::{Answer, refused_query};
+use answers::Refusal;
 use areas::limits_of;
 use query::{Query, in_range};
 use search::least_within;
 
 // The least whole As, in mm².
-pub fn steel(q: Query) -> Answer
-    ensures { result ≡ steel_of q }
+pub fn steel(q: Query) -> Result<u32, Refusal>
+    ensures { query_answer result ≡ steel_of q }
 {
-    if in_range(q) {
-        least_within(limits_of(q))
-    } else {
-        refused_query(11)
+    if !in_range(q) {
+        return Err(Refusal::QueryOutOfRange);
     }
+    least_within(limits_of(q))
 }

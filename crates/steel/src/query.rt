@@ -2,10 +2,11 @@
 ghost use Rattle.std.specs.Prelude.{◌≡◌};
 ghost use Rattle.steel.specs.Query.{InRange, depth_listed, in_range, depth_of};
 
-use numbers::{both, larger, within};
+use numbers::{both, within};
 use records::ranges::materials_ok;
 
 // The moment m, in N·cm, on a width b of a slab of thickness t, at the depth d or, for 0, the default one.
+// d is no Option: 0 is what C passes, and `depth_of` and `depth_listed` of specs/ take any number.
 #[derive(Clone, Copy)]
 pub struct Query {
     pub m: u64,
@@ -20,7 +21,7 @@ pub struct Query {
 fn depth_listed(d: u64, t: u64) -> bool
     ensures { result ≡ depth_listed d t }
 {
-    let inside = within(50, larger(t, 25) - 25, d);
+    let inside = within(50, t.saturating_sub(25), d);
     inside || d == 0
 }
 

@@ -1,17 +1,17 @@
 // A strip of a section of a span: its width, its moment, and the bars that carry it.
 ghost use Rattle.std.specs.Prelude.{◌≡◌, ◌≤◌, ◌<◌};
 ghost use Rattle.steel.specs.Asked.{InSpan};
-ghost use Rattle.steel.specs.Strips.{moment_number, strip_width, schedule_depth, nothing, reinforcement_of, entry_of};
+ghost use Rattle.steel.specs.Strips.{moment_number, strip_width, schedule_depth, reinforcement_of, if_reinforced, entry_of, if_barred};
 
 use crate::query::Query;
 use bars::choice::bars_for;
 use bars::entry::Entry;
 use bars::width::{column_width, middle_width};
 use frames::span::Span;
-use numbers::larger;
 use plan::ways::Way;
 
 // t, fc and fy of a floor.
+// `Query` has the three one by one and holds no `Materials`: its fields are C's six arguments, as `query_of` of specs/ has them.
 #[derive(Clone, Copy)]
 pub struct Materials {
     pub t: u64,
@@ -19,7 +19,8 @@ pub struct Materials {
     pub fy: u64,
 }
 
-// The area asked, and the bars; the diameter is 0 where there are none.
+// The area asked, and the bars.
+// Not an area beside `Bars`: `laid` and `entry_of` of specs/ name the three fields, and C's record has them one by one.
 #[derive(Clone, Copy)]
 pub struct Reinforcement {
     pub area: u32,
@@ -28,6 +29,7 @@ pub struct Reinforcement {
 }
 
 // The width that is left for bars. A span has six strips: of section q / 2, the column strip where q is even and the middle strip where it is odd.
+// q is a number, not two enums: the schedule's records have q / 2 and q % 2, and `strip_width`, `moment_number` and `entry_of` of specs/ are of any q.
 fn strip_width(s: Span, q: u32) -> u64
     ensures { result ≡ strip_width s q }
 {
@@ -56,62 +58,46 @@ pub fn moment_number(q: u32) -> usize
 fn schedule_depth(way: Way, t: u64) -> u64
     ensures { result ≡ schedule_depth way t }
 {
-    let first_layer = larger(t, 26) - 26;
+    let first_layer = t.saturating_sub(26);
     match way {
         Way::X => first_layer,
         Way::Y => 0,
     }
 }
 
-fn none() -> Reinforcement
-    ensures { result ≡ nothing }
-{
-    Reinforcement {
-        area: 0,
-        diameter: 0,
-        spacing: 0,
-    }
-}
-
 // The least area and the smallest bars. A width of 0 is no query.
-fn reinforce(query: Query) -> Reinforcement
-    ensures { result ≡ reinforcement_of query }
+fn reinforce(query: Query) -> Option<Reinforcement>
+    ensures { result ≡ if_reinforced (reinforcement_of query) }
 {
     let width = query.b;
-    let t = query.t;
     if width == 0 {
-        return none();
+        return None;
     }
-    let steel = crate::steel(query);
-    if steel.refusal != 0 {
-        return none();
-    }
-    let area = steel.value;
-    let bars = bars_for(width, area as u64, t);
-    Reinforcement {
+    let area = crate::steel(query).ok()?;
+    let bars = bars_for(width, area as u64, query.t)?;
+    Some(Reinforcement {
         area,
         diameter: bars.diameter,
         spacing: bars.spacing,
-    }
+    })
 }
 
 // The record of the schedule for strip q of span s, which is record k of the table.
-pub fn entry(s: Span, m: Materials, k: u32, q: u32, moment: u32) -> Entry
+// Field by field and no From: they are of the span, of the strip, of its moment and of what is laid.
+pub fn entry(s: Span, m: Materials, k: u32, q: u32, moment: u32) -> Option<Entry>
     requires { InSpan s q moment }
-    ensures { result ≡ entry_of s m k q }
+    ensures { result ≡ if_barred (entry_of s m k q) }
 {
     let width = strip_width(s, q);
-    let way = s.way;
-    let depth = schedule_depth(way, m.t);
     let laid = reinforce(Query {
         m: moment as u64,
         b: width,
         t: m.t,
-        d: depth,
+        d: schedule_depth(s.way, m.t),
         fc: m.fc,
         fy: m.fy,
-    });
-    Entry {
+    })?;
+    Some(Entry {
         record: k,
         section: q / 2,
         strip: q % 2,
@@ -120,5 +106,5 @@ pub fn entry(s: Span, m: Materials, k: u32, q: u32, moment: u32) -> Entry
         area: laid.area,
         diameter: laid.diameter,
         spacing: laid.spacing,
-    }
+    })
 }

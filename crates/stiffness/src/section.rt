@@ -3,8 +3,7 @@ ghost use Rattle.std.specs.Prelude.{◌≡◌, ◌*◌, ◌/◌, ◌≤◌};
 ghost use Rattle.stiffness.specs.Asked.{Beam, Deeper, Flanged, Part, Sides, Term};
 ghost use Rattle.stiffness.specs.Sections.{area, cube, inertia, torsion, flange, overhang, apart, flanged_inertia, edge_torsion};
 
-use numbers::{larger, smaller};
-
+// No range stands in the type, and t comes beside it: what is asked (`Part`, `Sides`, `Beam`, `Deeper`) depends on what it is taken for.
 #[derive(Clone, Copy)]
 pub struct Section {
     pub width: u64,
@@ -26,6 +25,7 @@ impl Section {
     }
 
     // Twelve times the inertia, of the rectangle by itself.
+    #[tactic(auto, unfolding(crate::specs::Sections::inertia))]
     fn inertia(self) -> u64
         requires { Part self.width self.depth }
         ensures { (result ≡ inertia self.width self.depth) × (result ≤ 8100000000000) }
@@ -36,6 +36,7 @@ impl Section {
     }
 
     // 3·(b·h)·(p·t)·(h − t)²: the largest number on the way.
+    #[tactic(auto, using(crate::proofs::Stiffness::apart_most))]
     fn apart(self, flange: Section) -> u64
         requires { Flanged self.width self.depth flange.width flange.depth }
         ensures { (result ≡ apart self.width self.depth flange.width flange.depth) × (result ≤ 4805419921875000000) }
@@ -48,6 +49,7 @@ impl Section {
     }
 
     // Twelve times the inertia of this beam and the flange beside its upper edge, as one section.
+    #[tactic(auto, using(crate::proofs::Stiffness::flanged_most), unfolding(crate::specs::Sections::flanged_inertia))]
     pub fn with_flange(self, flange: Section) -> u64
         requires { Flanged self.width self.depth flange.width flange.depth }
         ensures { (result ≡ flanged_inertia self.width self.depth flange.width flange.depth) × (result ≤ 12000000 * cube flange.depth) }
@@ -56,14 +58,13 @@ impl Section {
         self.inertia() + flange.inertia() + last_term(self.apart(flange), areas)
     }
 
+    #[tactic(auto, unfolding(crate::specs::Sections::torsion))]
     pub fn torsion(self) -> u64
         requires { Sides self.width self.depth }
         ensures { (result ≡ torsion self.width self.depth) × (result ≤ 220000000000000) }
     {
-        let a = self.width;
-        let b = self.depth;
-        let x = smaller(a, b);
-        let y = larger(a, b);
+        let x = self.width.min(self.depth);
+        let y = self.width.max(self.depth);
         x * x * x * (100 * y - 63 * x)
     }
 }
@@ -76,11 +77,12 @@ fn last_term(apart: u64, areas: u64) -> u64
 }
 
 // The flange f: what the slab adds to a beam.
+#[tactic(auto, unfolding(crate::specs::Sections::flange))]
 pub fn flange(h: u64, t: u64) -> u64
     requires { Deeper h t }
     ensures { (result ≡ flange h t) × (result ≤ 1200) }
 {
-    smaller(h - t, 4 * t)
+    (h - t).min(4 * t)
 }
 
 // p: the flange is on one side outside, on both inside.
@@ -93,6 +95,7 @@ pub fn overhang(outer: bool, h: u64, t: u64) -> u64
 }
 
 // T of the beam on an outer line.
+#[tactic(auto, unfolding(crate::specs::Sections::edge_torsion))]
 pub fn edge_torsion(beam: Section, t: u64) -> u64
     requires { Beam beam.width beam.depth t }
     ensures { (result ≡ edge_torsion beam.width beam.depth t) × (result ≤ 440000000000000) }
@@ -105,5 +108,5 @@ pub fn edge_torsion(beam: Section, t: u64) -> u64
     let f = flange(h, t);
     let one = Section::of(b, h).torsion() + Section::of(f, t).torsion();
     let two = Section::of(b, h - t).torsion() + Section::of(b + f, t).torsion();
-    larger(one, two)
+    one.max(two)
 }

@@ -24,13 +24,10 @@ const END: [[u64; 3]; 5] = [
 fn place_column(place: SpanPlace) -> usize
     ensures { (result ≡ place_column place) × (result < 3) }
 {
-    match place {
-        SpanPlace::OuterEnd => 0,
-        SpanPlace::Between => 1,
-        SpanPlace::InnerEnd => 2,
-    }
+    place as usize
 }
 
+// A match, not a cast: the rows stand in the table's order, not in the enum's.
 fn layout_row(layout: Layout) -> usize
     ensures { (result ≡ layout_row layout) × (result < 5) }
 {
@@ -42,6 +39,8 @@ fn layout_row(layout: Layout) -> usize
 }
 
 // A side whose code is neither 1 nor 2 has columns.
+// The code is a number, not an enum: the clauses, of `end_percent` too, are of any.
+#[tactic(auto, unfolding(crate::specs::EndTable::end_row))]
 fn end_row(code: u32, layout: Layout) -> usize
     ensures { (result ≡ end_row code layout) × (result < 5) }
 {
@@ -52,7 +51,8 @@ fn end_row(code: u32, layout: Layout) -> usize
     }
 }
 
-// p in an end span whose outer side has this code.
+// p in an end span whose outer side has this code. Code and layout come as two, here and above, as this clause takes them: it is of any number.
+#[tactic(auto, unfolding(crate::specs::EndTable::end_percent))]
 pub fn end_percent(code: u32, layout: Layout, place: SpanPlace) -> u64
     ensures { (result ≡ end_percent code layout place) × (result ≤ 75) }
 {
@@ -66,9 +66,8 @@ pub fn inner_percent(place: SpanPlace) -> u64
     ensures { (result ≡ inner_percent place) × (result ≤ 75) }
 {
     match place {
-        SpanPlace::OuterEnd => 65,
+        SpanPlace::OuterEnd | SpanPlace::InnerEnd => 65,
         SpanPlace::Between => 35,
-        SpanPlace::InnerEnd => 65,
     }
 }
 

@@ -1,4 +1,5 @@
-// Column strip parts of 10000, and a section total divided between the strips, the beam and the slab.
+// Column strip parts of 10000, and a section total divided between the strips, the beam and the slab. A, R and B
+// come one by one, and so do a section's numbers, as the clauses of these functions take them.
 ghost use Rattle.std.specs.Prelude.{◌≡◌, ◌≤◌};
 ghost use Rattle.numbers.specs.Rounding.{plus_floor};
 ghost use Rattle.strips.specs.Asked.{Floored, Crossing, ShareRatios, OuterRatios, Fraction, SectionShare};
@@ -13,6 +14,7 @@ fn plus_floor(k: u64, p: u64, q: u64, d: u64) -> u64
 }
 
 // At A 0 the part is base, and so it is at every A where R is the crossover.
+#[tactic(auto, using(crate::proofs::Parts::part_in), unfolding(crate::specs::Strips::part))]
 fn part(base: u64, crossover: u64, a: u64, r: u64) -> u64
     requires { Crossing base crossover × ShareRatios a r }
     ensures { (result ≡ part base crossover a r) × (4500 ≤ result) × (result ≤ 9000) }
@@ -34,6 +36,7 @@ pub fn inner_negative(a: u64, r: u64) -> u64
     part(7500, 10000, a, r)
 }
 
+#[tactic(auto, using(crate::proofs::Parts::outer_in), unfolding(crate::specs::Strips::outer_negative))]
 pub fn outer_negative(a: u64, r: u64, b: u64) -> u64
     requires { OuterRatios a r b }
     ensures { (result ≡ outer_negative a r b) × (4500 ≤ result) × (result ≤ 10000) }
@@ -65,6 +68,7 @@ fn share(total: u64, n: u64, d: u64) -> u64
 }
 
 // The column strip takes n parts of d of the total; the middle strip and the slab are what is left.
+#[tactic(auto, unfolding(crate::specs::Strips::split, crate::specs::Strips::beam_share))]
 fn divided(total: u64, n: u64, d: u64, a: u64) -> Strips
     requires { SectionShare total n d a }
     ensures { result ≡ split total (share total n d) a }

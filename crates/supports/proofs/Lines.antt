@@ -17,18 +17,15 @@ use Rattle.plan.specs.declared.ways.Way.{Way}
 use Rattle.plan.specs.declared.ways.Way.TheVariants.{X, Y}
 use Rattle.plan.specs.declared.read.Bays.{Bays}
 use Rattle.plan.specs.Ways.{pick, across}
-use Rattle.tables.specs.declared.named.Spans.{Spans}
-use Rattle.tables.specs.Width.{record_width}
-use Rattle.tables.specs.Places.{Place, records_of, line_first_in}
-use Rattle.tables.specs.Named.{named_spans}
-use Rattle.tables.specs.Asked.{Naming, OnLine}
-use Rattle.tables.proofs.Numbered.{along_most}
+use Rattle.tables.specs.Places.{Place, line_first_in}
+use Rattle.tables.specs.Named.{Spans, named_spans}
+use Rattle.tables.specs.Asked.{Naming}
 use Rattle.tables.proofs.Meaning.{named_most}
 use Rattle.tables.proofs.Runs.{next_one}
 use Rattle.supports.specs.Governing.{support_width, support_on, spans_of, last_of, supports_of, support_count, support_first, support_place, support_in, support_at}
 use Rattle.supports.specs.Beside.{beside_some, beside_named, beside_at}
-use Rattle.supports.specs.Asked.{OnFrame, SupportRoom, Supporting, AtFrame, AtSupports}
-use Rattle.supports.proofs.Supports.{last_most, line_below, spans_below, number_support}
+use Rattle.supports.specs.Asked.{SupportRoom, Supporting, AtFrame, AtSupports}
+use Rattle.supports.proofs.Supports.{line_below, number_support}
 
 -- the supports of a line, by their numbers
 abbrev pub line_support : List ℕ → ℕ → ℕ → ℕ → ℕ → List ℕ
@@ -57,22 +54,6 @@ module _ (b : Bays) (d : Way) (l : ℕ) (hl : l ≤ last_of b d) where
   beside_on kind index s h = ap (λ (p : Place). beside_named b kind index p) (place_is s h)
 
 module _ {b : Bays} {t g : List ℕ} {d : Way} {l from to : ℕ} (h : AtSupports b t g d l from to) where
-  pub on_line : OnLine b l
-  on_line = record { bayed = h.bayed; line = omega (arith, h.line, last_most h.bayed d) }
-
-  pub to_few : to ≤ 12
-  to_few = omega (arith, h.last, along_most h.bayed d)
-
-  pub on_frame : {first n s : ℕ} → first ≡ line_first_in b d l → n ≡ spans_of b d → s ≤ to → first ≤ 300 → OnFrame t first n s
-  on_frame {first} {n} e q hs few =
-      let end : first + n ≤ records_of b = rw (e, q) (spans_below b d l h.line) in
-      record {
-        some = rw q h.some;
-        support = rw q (omega (arith, h.last));
-        few = omega (arith, q, along_most h.bayed d);
-        records = omega (arith, mul-le-mul_right record_width end, h.table);
-      }
-
   pub support_room : {start s : ℕ} (u : List ℕ) → start ≡ support_first b d l → s ≤ to → length u ≡ length g → SupportRoom (start + s + 1) u
   support_room {start} {s} u e hs q =
       let end : start + s + 1 ≤ support_count b = rw e (omega (arith, line_below b d l h.line, h.last)) in
@@ -148,9 +129,6 @@ module _ {b : Bays} {t g : List ℕ} {kind index : ℕ} (h : Supporting b t g ki
         index_most = h.index_most;
         there = h.there;
       }
-
-  pub at_frame : {d : Way} {l : ℕ} (u : List ℕ) → length u ≡ length g → l ≤ last_of b d → AtFrame b t u kind index d l
-  at_frame u e q = record { all = supporting_in u e; line = q }
 
 pub last_is : (b : Bays) {n : ℕ} {over : Way} (d : Way) → over ≡ across d → n ≡ pick over b.x b.y → n ≡ last_of b d
 last_is b X q e = e ∙ rw q

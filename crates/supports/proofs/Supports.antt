@@ -1,13 +1,11 @@
 -- Supports in their lines (crate tables, InLines): how many there are, which is which, and where a line's start.
 -- Assumes nothing.
 use Prim.Native.Nat.{ℕ, ◌+◌, ◌*◌, ◌≤◌, ◌<◌}
-use mathlib.Core.Path.{◌≡◌, refl}
-use native.Mathlib.Omega.{arith}
+use mathlib.Core.Path.{◌≡◌}
 use Rattle.numbers.proofs.Bounded.{◌⊕◌, ◌⊗◌, #}
 use Rattle.plan.specs.declared.ways.Way.{Way}
 use Rattle.plan.specs.declared.ways.Way.TheVariants.{X, Y}
 use Rattle.plan.specs.declared.read.Bays.{Bays}
-use Rattle.plan.specs.Ways.{pick}
 use Rattle.tables.specs.Places.{Place, InsideOf, start_in, count_in, records_of, line_first_in}
 use Rattle.tables.specs.Asked.{Bayed}
 use Rattle.tables.proofs.InLines.{line_ends, below_count, its_place, covered}
@@ -27,15 +25,6 @@ module _ {b : Bays} (h : Bayed b) where
   pub last_most : (d : Way) → last_of b d ≤ 12
   last_most X = h.y
   last_most Y = h.x
-
-  -- those along d start here
-  pub start_is : (d : Way) → pick d 0 ((b.y + 1) * (b.x + 1)) ≡ start_in (supports_of b) (last_of b) d
-  start_is X = refl
-  start_is Y = refl
-
-  pub start_most : (d : Way) → start_in (supports_of b) (last_of b) d ≤ 169
-  start_most X = omega arith
-  start_most Y = supports_most h.y h.x
 
 -- ---- which is which
 

@@ -3,7 +3,6 @@
 use Prim.Native.Nat.{ℕ, ◌+◌, ◌*◌, ◌<◌, ◌≤◌}
 use mathlib.Core.List.{List}
 use mathlib.Core.Path.{◌≡◌, refl, ◌∙◌}
-use native.Mathlib.Omega.{arith}
 use Rattle.numbers.proofs.Bounded.{◌⊕◌, ◌⊗◌, #}
 use Rattle.plan.specs.declared.ways.Way.{Way}
 use Rattle.plan.specs.declared.ways.Way.TheVariants.{X, Y}
@@ -12,7 +11,7 @@ use Rattle.plan.specs.declared.read.Bays.{Bays}
 use Rattle.plan.specs.Plan.{bays, last_line, bays_of}
 use Rattle.plan.specs.Asked.{Sized}
 use Rattle.plan.proofs.Reading.{bays_most}
-use Rattle.tables.specs.Places.{Place, InsideOf, Inside, records_of, record_count, first_in, line_first_in, first_of, line_first, number_of, place_of, place_among}
+use Rattle.tables.specs.Places.{Place, InsideOf, Inside, records_of, record_count, line_first_in, first_of, line_first, number_of, place_of, place_among}
 use Rattle.tables.specs.Asked.{Bayed}
 use Rattle.tables.proofs.InLines.{line_ends, below_count, its_place, one_place, covered}
 
@@ -21,15 +20,6 @@ pub frames_most : {m n : ℕ} → m ≤ 12 → n ≤ 12 → (m + 1) * n ≤ 156
 frames_most hm hn = (hm ⊕ # 1) ⊗ hn
 
 module _ {b : Bays} (h : Bayed b) where
-  -- the frames along d start here
-  pub first_is : (d : Way) → pick d 0 ((b.y + 1) * b.x) ≡ first_in b d
-  first_is X = refl
-  first_is Y = refl
-
-  pub first_most : (d : Way) → first_in b d ≤ 156
-  first_most X = omega arith
-  first_most Y = frames_most h.y h.x
-
   pub along_most : (d : Way) → pick d b.x b.y ≤ 12
   along_most X = h.x
   along_most Y = h.y

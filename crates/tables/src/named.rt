@@ -1,62 +1,57 @@
 // The records that a change names (01, "What a change may write"): of each line, spans that follow one another.
 ghost use Rattle.std.specs.Prelude.{◌≡◌, ◌≤◌};
-ghost use Rattle.tables.specs.Named.{all_spans, whole_if, end_span, named_spans};
+ghost use Rattle.tables.specs.Named.{from_to, whole_if, end_span, named_spans};
 ghost use Rattle.tables.specs.Asked.{Naming};
 
 use plan::ways::{Way, across, line_kind, span_kind};
 use records::kinds::LOADS;
+use std::ops::Range;
 
-// Spans from `from` on, below `to`.
+// A record of the floor, as a change names it. The kind is a number, not an enum: C's format and the clauses speak of any number.
 #[derive(Clone, Copy)]
-pub struct Spans {
-    pub from: u32,
-    pub to: u32,
+pub struct Named {
+    pub kind: u32,
+    pub index: u32,
 }
 
-fn all_spans(n: u32) -> Spans
-    ensures { result ≡ all_spans n }
-{
-    Spans { from: 0, to: n }
-}
+// The record of the loads, whose change names every span.
+pub const EVERYTHING: Named = Named {
+    kind: LOADS,
+    index: 0,
+};
 
-fn whole_if(test: bool, n: u32) -> Spans
-    ensures { result ≡ whole_if test n }
+fn whole_if(test: bool, n: u32) -> Range<u32>
+    ensures { from_to result.start result.end ≡ whole_if test n }
 {
-    if test {
-        all_spans(n)
-    } else {
-        Spans { from: 0, to: 0 }
-    }
+    if test { 0..n } else { 0..0 }
 }
 
 // Of a frame of n spans, the one that ends at line j across it, where j is an outer line.
-fn end_span(n: u32, j: u32) -> Spans
+fn end_span(n: u32, j: u32) -> Range<u32>
     requires { 1 ≤ n }
-    ensures { result ≡ end_span n j }
+    ensures { from_to result.start result.end ≡ end_span n j }
 {
     if j == 0 {
-        return Spans { from: 0, to: 1 };
+        return 0..1;
     }
     if j == n {
-        return Spans { from: n - 1, to: n };
+        return n - 1..n;
     }
-    Spans { from: 0, to: 0 }
+    0..0
 }
 
-// Of line l along d, with n spans, those that a change of this kind and index names.
-pub fn named_spans(kind: u32, index: u32, d: Way, l: u32, n: u32) -> Spans
-    requires { Naming n index }
-    ensures { result ≡ named_spans kind index d l n }
+// Of line l along d, with n spans, those that a change names.
+pub fn named_spans(named: Named, d: Way, l: u32, n: u32) -> Range<u32>
+    requires { Naming n named.index }
+    ensures { from_to result.start result.end ≡ named_spans named.kind named.index d l n }
 {
+    let Named { kind, index } = named;
     let over = across(d);
     if kind == LOADS {
-        return all_spans(n);
+        return 0..n;
     }
     if kind == span_kind(d) {
-        return Spans {
-            from: index,
-            to: index + 1,
-        };
+        return index..index + 1;
     }
     if kind == span_kind(over) {
         return whole_if(l == index || l == index + 1, n);
@@ -67,5 +62,5 @@ pub fn named_spans(kind: u32, index: u32, d: Way, l: u32, n: u32) -> Spans
     if kind == line_kind(over) {
         return end_span(n, index);
     }
-    Spans { from: 0, to: 0 }
+    0..0
 }

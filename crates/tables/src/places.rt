@@ -14,6 +14,7 @@ pub struct Found {
     pub span: u32,
 }
 
+// That the bays are in range is asked, here and below, and not part of `Bays`: the places of a limit are counted by it too, up to 13.
 pub fn record_count(b: Bays) -> u32
     requires { Bayed b }
     ensures { (result ≡ records_of b) × (result ≤ 312) }

@@ -1,8 +1,7 @@
-// Records of the table, written one by one; numbers past them stay.
-ghost use Rattle.std.specs.Prelude.{◌≡◌, ◌+◌, ◌≤◌, length};
+// Records of a lent slice, written one by one; numbers past them stay.
+ghost use Rattle.std.specs.Prelude.{◌≡◌, ◌+◌, ◌*◌, ◌≤◌, length};
 ghost use Rattle.std.proofs.Math.Seq.{paste};
 ghost use Rattle.numbers.specs.Records.{put};
-ghost use Rattle.tables.specs.Width.{record_width};
 ghost use Rattle.tables.specs.Blank.{blanked};
 ghost use Rattle.tables.specs.Asked.{Room};
 
@@ -14,28 +13,25 @@ pub fn write_at(slice: &mut [u32], at: usize, values: &[u32])
     requires { at + length values.now ≤ length slice.old }
     ensures { slice.new ≡ paste slice.old at values.now (length values.now) }
 {
-    let mut n: usize = 0;
-    while n < values.len() {
-        slice[at + n] = values[n];
-        n += 1;
-    }
+    slice[at..at + values.len()].copy_from_slice(values);
 }
 
-pub fn write_record(table: &mut [u32], k: usize, values: [u32; WIDTH])
-    requires { Room (k + 1) table.old }
-    ensures { table.new ≡ put record_width k values table.old }
+// Record k of those that have W numbers each and stand one after another. Room is asked, here and in `blank`, and not kept in a type: the slice is the
+// caller's, and each call asks it of another record.
+pub fn write_record<const W: usize>(records: &mut [u32], k: usize, values: [u32; W])
+    requires { k * W + W ≤ length records.old }
+    ensures { records.new ≡ put W k values.entry records.old }
 {
-    write_at(table, k * WIDTH, &values);
+    write_at(records, k * W, &values);
 }
 
-// Zeros in n records.
+// Zeros in n records. A number beside the table, which may be longer: `blanked n` says that the rest stays.
 pub fn blank(table: &mut [u32], n: u32)
     requires { Room n table.old }
     ensures { table.new ≡ blanked n table.old }
 {
-    let mut k: u32 = 0;
-    while k < n {
+    // Record by record and not by one fill: 01 asks for it so (01, "Forms to follow in each place").
+    for k in 0..n {
         write_record(table, k as usize, [0u32; WIDTH]);
-        k += 1;
     }
 }

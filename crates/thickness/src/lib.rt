@@ -6,7 +6,7 @@ ghost use Rattle.numbers.specs.Rounding.{up, Quotient};
 ghost use Rattle.thickness.specs.Asked.{Answered, ByTable, Middle, Multiple, PanelSizes, SlabMost};
 ghost use Rattle.thickness.specs.LeastThickness.{grade_row, panel_column, divisor, stiff, middling, tabled, answer_of01, raises, raised, least_thickness, Asks, Thinnest};
 
-use numbers::{both, larger, rounded_up};
+use numbers::rounded_up;
 
 // Outer panel without edge beams, outer with, inner.
 #[derive(Clone, Copy)]
@@ -17,7 +17,7 @@ pub enum PanelPlace {
 }
 
 // What the least thickness of a panel is worked out from; sn and ln are its shorter and longer clear spans, and `weak` says that it has an
-// outer line with α below 8000 (02, Three).
+// outer line with α below 8000 (02, Three). Its ranges stand in the clauses of least_thickness and enough, not in the type.
 #[derive(Clone, Copy)]
 pub struct Panel {
     pub everywhere: bool,
@@ -45,13 +45,10 @@ fn grade_row(fy: u64) -> usize
 fn panel_column(place: PanelPlace) -> usize
     ensures { (result ≡ panel_column place) × (result < 3) }
 {
-    match place {
-        PanelPlace::Bare => 0,
-        PanelPlace::Edged => 1,
-        PanelPlace::Inner => 2,
-    }
+    place as usize
 }
 
+#[tactic(auto, unfolding(crate::specs::LeastThickness::divisor))]
 pub fn divisor(fy: u64, place: PanelPlace) -> u64
     ensures { (result ≡ divisor fy place) × (28 ≤ result) × (result ≤ 36) }
 {
@@ -68,6 +65,25 @@ struct Bound {
     least: u64,
 }
 
+impl Bound {
+    // The least t that it allows.
+    fn reach(self) -> u64
+        requires { Quotient self.n self.d }
+        ensures { result ≡ max self.least (up self.n self.d) }
+    {
+        self.least.max(rounded_up(self.n, self.d))
+    }
+
+    // Whether it allows t, with no division.
+    fn reaches(self, t: u64) -> bool
+        requires { Multiple self.d t }
+        ensures { result ≡ leb (max self.least (up self.n self.d)) t }
+    {
+        self.least <= t && self.n <= t * self.d
+    }
+}
+
+#[tactic(auto, unfolding(crate::specs::LeastThickness::stiff))]
 fn stiff(fy: u64, sn: u64, ln: u64) -> Bound
     requires { PanelSizes fy sn ln }
     ensures { Asks (stiff fy sn ln) result }
@@ -79,6 +95,7 @@ fn stiff(fy: u64, sn: u64, ln: u64) -> Bound
     }
 }
 
+#[tactic(auto, unfolding(crate::specs::LeastThickness::middling))]
 fn middling(fy: u64, sn: u64, ln: u64, s: u64) -> Bound
     requires { Middle fy sn ln s }
     ensures { Asks (middling fy sn ln s) result }
@@ -90,6 +107,7 @@ fn middling(fy: u64, sn: u64, ln: u64, s: u64) -> Bound
     }
 }
 
+#[tactic(auto, unfolding(crate::specs::LeastThickness::tabled))]
 fn tabled(divisor: u64, ln: u64) -> Bound
     requires { ByTable divisor ln }
     ensures { Asks (tabled divisor ln) result }
@@ -104,6 +122,7 @@ fn tabled(divisor: u64, ln: u64) -> Bound
 // 01: with beams everywhere, "S > 80000", the stiffness of a panel's four lines together.
 const STIFF_ABOVE: u64 = 80000;
 
+#[tactic(auto, unfolding(crate::specs::LeastThickness::answer_of01))]
 fn rule_of(p: Panel) -> Bound
     requires { PanelSizes p.fy p.sn p.ln }
     ensures { Asks (answer_of01 p) result }
@@ -120,27 +139,12 @@ fn rule_of(p: Panel) -> Bound
     tabled(divisor(p.fy, place), p.ln)
 }
 
-// The least number, m or more, whose multiple of `d` reaches `n`.
-fn reach(n: u64, d: u64, m: u64) -> u64
-    requires { Quotient n d }
-    ensures { result ≡ max m (up n d) }
-{
-    larger(m, rounded_up(n, d))
-}
-
-// Whether t is that number or more, with no division.
-fn reaches(n: u64, d: u64, m: u64, t: u64) -> bool
-    requires { Multiple d t }
-    ensures { result ≡ leb (max m (up n d)) t }
-{
-    m <= t && n <= t * d
-}
-
 // Whether the panel needs ten percent more than the answer of 01.
+#[tactic(auto, unfolding(crate::specs::LeastThickness::raises))]
 fn raises(p: Panel) -> bool
     ensures { result ≡ raises p }
 {
-    p.weak && both(p.everywhere, 8000 < p.s)
+    p.weak && p.everywhere && 8000 < p.s
 }
 
 fn ten_percent_more(answer: u64) -> u64
@@ -151,6 +155,7 @@ fn ten_percent_more(answer: u64) -> u64
 }
 
 // Where it is needed.
+#[tactic(auto, unfolding(crate::specs::LeastThickness::raised))]
 fn raise(needed: bool, answer: u64) -> u64
     requires { Answered answer }
     ensures { result ≡ cond needed (raised answer) answer }
@@ -171,20 +176,20 @@ fn allows(needed: bool, t: u64) -> u64
 }
 
 // The least whole t in mm.
+#[tactic(auto, using(crate::proofs::Thinnest::answered))]
 pub fn least_thickness(p: Panel) -> u64
     requires { PanelSizes p.fy p.sn p.ln }
     ensures { Thinnest p result }
 {
-    let rule = rule_of(p);
-    raise(raises(p), reach(rule.n, rule.d, rule.least))
+    raise(raises(p), rule_of(p).reach())
 }
 
 // Whether a slab's t is enough, which is asked of every panel.
+#[tactic(auto, using(crate::proofs::Thinnest::allowed), unfolding(crate::specs::LeastThickness::least_thickness))]
 pub fn enough(p: Panel, t: u64) -> bool
     requires panel_sizes { PanelSizes p.fy p.sn p.ln }
     requires slab_most { SlabMost t }
     ensures { result ≡ leb (least_thickness p) t }
 {
-    let rule = rule_of(p);
-    reaches(rule.n, rule.d, rule.least, allows(raises(p), t))
+    rule_of(p).reaches(allows(raises(p), t))
 }

@@ -5,12 +5,21 @@ use mathlib.Core.Bool.{Bool, ◌||◌}
 use mathlib.Core.List.{List}
 use mathlib.Core.Path.{◌≡◌}
 use lib.Dec.{ltb}
+use Rattle.plan.specs.declared.ways.Way.{Way}
+use Rattle.plan.specs.Ways.{pick}
 use Rattle.plan.specs.declared.ways.Way.TheVariants.{X, Y}
 use Rattle.lines.specs.declared.slab.Slab.{Slab}
+use Rattle.lines.specs.declared.survey.Floor.{Floor}
+use Rattle.lines.specs.Rows.{Spans}
+use Rattle.places.specs.Asked.{SpansAlong}
 use Rattle.lines.specs.Lines.{panel_thickness}
 use Rattle.lines.specs.Slabs.{slab_of}
 use Rattle.lines.proofs.Slabs.{bays_of_lem, loads_of}
 use Rattle.limits.specs.Limits.{some_panel, too_few, few, slender_panel, uneven, astray, overloaded, heavy, unbalanced, thin_panel, sum_of, verdict}
+
+-- the spans along d, of which 4 is asked
+pub spans_of : (o : Floor) (d : Way) {s : List ℕ} → Spans o.bytes.now d s → SpansAlong o.bytes.now d s (pick d o.slab.bays.x o.slab.bays.y)
+spans_of o d p = record { accepted = o.accepted; spans = p; number = (bays_of_lem o.bytes.now o.shared d).0 }
 
 module _ (f : List ℕ) {slab : Slab} (shared : slab ≡ slab_of f) where
   pub few_is : {a : Bool} → a ≡ (too_few slab.bays.x || too_few slab.bays.y) → a ≡ few f

@@ -1,41 +1,20 @@
 -- Limit by limit, the test of its own.
 -- Assumes nothing.
 use Rattle.verdict.proofs.Sum.{heavy_is, thin_of}
-use Rattle.broken.proofs.Tests.{few_at, place_as, panel_asks, slender_asks, uneven_asks, astray_asks}
+use Rattle.broken.proofs.Tests.{few_at, place_as, panel_asks}
 use Rattle.broken.proofs.broken_at.Goals as goal
 
-pub slender_at-requires : goal.slender_at-requires
-slender_at-requires c = slender_asks c.requires c.in-Slender.is
-
-pub unlike_next-requires : goal.unlike_next-requires
-unlike_next-requires c = uneven_asks c.requires c.in-Uneven.is c.pick-in-Uneven.ensures
-
-pub astray_along-requires : goal.astray_along-requires
-astray_along-requires c = astray_asks c.requires c.in-Astray.is
-
 pub unequal_at-requires : goal.unequal_at-requires
-unequal_at-requires c = panel_asks c.requires (place_as c.requires c.in-Unbalanced.is)
+unequal_at-requires c = panel_asks c.args.lines.now _ (place_as c.requires c.in-Unbalanced.is)
 
 pub panel_thickness-requires : goal.panel_thickness-requires
-panel_thickness-requires c = panel_asks c.requires (place_as c.requires c.in-Thin.is)
+panel_thickness-requires c = panel_asks c.args.lines.now _ (place_as c.requires c.in-Thin.is)
 
 pub returns-in-Few : goal.returns-in-Few
-returns-in-Few c = rw c.in-Few.is (few_at c.requires.ready.surveyed _ c.pick.ensures c.few_along.ensures)
-
-pub returns-in-Slender : goal.returns-in-Slender
-returns-in-Slender c = rw c.in-Slender.is c.slender_at.ensures
-
-pub returns-in-Uneven : goal.returns-in-Uneven
-returns-in-Uneven c = rw (c.in-Uneven.is, ← c.pick-in-Uneven.ensures) c.unlike_next.ensures
-
-pub returns-in-Astray : goal.returns-in-Astray
-returns-in-Astray c = rw c.in-Astray.is c.astray_along.ensures
+returns-in-Few c = rw c.in-Few.is (few_at c.args.lines.now.survey.floor _ c.pick.ensures c.few_along.ensures)
 
 pub returns-in-Heavy : goal.returns-in-Heavy
-returns-in-Heavy c = rw c.in-Heavy.is (heavy_is _ c.requires.ready.surveyed.shared c.heavy.ensures)
-
-pub returns-in-Unbalanced : goal.returns-in-Unbalanced
-returns-in-Unbalanced c = rw c.in-Unbalanced.is c.unequal_at.ensures
+returns-in-Heavy c = rw c.in-Heavy.is (heavy_is _ c.args.lines.now.survey.floor.shared c.heavy.ensures)
 
 pub returns-in-Thin : goal.returns-in-Thin
-returns-in-Thin c = rw c.in-Thin.is (thin_of _ c.requires.ready.surveyed.shared _ _ c.panel_thickness.ensures.0)
+returns-in-Thin c = rw c.in-Thin.is (thin_of _ c.args.lines.now.survey.floor.shared _ _ c.panel_thickness.ensures.0)

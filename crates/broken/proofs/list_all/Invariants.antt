@@ -1,13 +1,10 @@
 -- The loop's invariant: the limits passed are listed, and no other.
 -- Assumes nothing.
-use Prim.Native.Nat.{◌*◌, ◌-◌, ◌≤◌}
+use Prim.Native.Nat.{◌*◌, ◌≤◌}
 use Rattle.limits.specs.Places.{limit_at}
 use Rattle.broken.specs.Listing.{gathered, limit_places}
 use Rattle.broken.specs.Laid.{Listed}
 use Rattle.broken.proofs.list_all.Given as goal
 
 abbrev pub invariant-loop-k : goal.invariant-loop-k
-invariant-loop-k l = (l.k ≤ 7) × Listed 0 (gathered l.k (λ m. limit_places l.f (limit_at m))) l.initial.places l.n l.places × (l.n ≤ 338 * l.k)
-
-abbrev pub decreases-loop-k : goal.decreases-loop-k
-decreases-loop-k l = 7 - l.k
+invariant-loop-k l = Listed 0 (gathered l.k (λ m. limit_places l.lines.survey.floor.bytes.now (limit_at m))) l.initial.places l.n l.places × (l.n ≤ 338 * l.k)

@@ -1,12 +1,9 @@
 -- The loop's invariant: the places passed are listed, and no other.
 -- Assumes nothing.
-use Prim.Native.Nat.{◌+◌, ◌-◌, ◌≤◌}
+use Prim.Native.Nat.{◌+◌, ◌≤◌}
 use Rattle.broken.specs.Listing.{gathered, one_place}
 use Rattle.broken.specs.Laid.{Listed}
 use Rattle.broken.proofs.list_row.Given as goal
 
 abbrev pub invariant-loop-i : goal.invariant-loop-i
-invariant-loop-i l = (l.i ≤ l.last) × Listed l.n (gathered l.i (one_place l.f l.limit l.d l.j)) l.initial.places l.m l.places × (l.m ≤ l.n + l.i)
-
-abbrev pub decreases-loop-i : goal.decreases-loop-i
-decreases-loop-i l = l.last - l.i
+invariant-loop-i l = Listed l.n (gathered l.i (one_place l.lines.survey.floor.bytes.now l.limit l.d l.j)) l.initial.places l.m l.places × (l.m ≤ l.n + l.i)

@@ -1,9 +1,13 @@
--- Refused, or the floor is accepted and its places are listed.
+-- Refused with the floor's number, or the floor is accepted and its places are listed.
 -- Assumes nothing.
-use mathlib.Core.Path.{◌∙◌}
+use native.Mathlib.Omega.{arith}
+use Rattle.std.proofs.lemmas.Result.{err_from_is_err_and}
+use Rattle.answers.proofs.Refusals.{positive}
 use Rattle.broken.proofs.Answers.{floor_refuses, refused_is}
 use Rattle.broken.proofs.places.Goals as goal
 
-pub returns-then-number-ne0 : goal.returns-then-number-ne0
-returns-then-number-ne0 c = let r = refused_is _ _ (floor_refuses _ _ c.refusal-number.ensures c.if-number-ne0.true) c.if-number-ne0.true in
-    record { answer = c.refused_query.ensures ∙ r.answer; slice = r.slice }
+pub returns-in_err-accept : goal.returns-in_err-accept
+returns-in_err-accept c =
+    let told = err_from_is_err_and c.from_residual.result c.from_residual.ensures.1 in
+    let e = c.in_err-accept.ensures in
+    rw (told.1, told.2) (refused_is _ _ (floor_refuses _ _ e (λ z. omega (arith, positive c.in_err-accept.field-0.0, z))) (λ z. omega (arith, positive c.in_err-accept.field-0.0, z)))

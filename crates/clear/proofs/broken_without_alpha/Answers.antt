@@ -1,20 +1,11 @@
--- Each callee's equation in turn, by cases.
+-- What 4 asks of each direction.
 -- Assumes nothing.
 use Rattle.plan.specs.declared.ways.Way.TheVariants.{X, Y}
-use Rattle.places.proofs.AtPlace.{along_of}
+use Rattle.verdict.proofs.Sum.{spans_of}
 use Rattle.clear.proofs.broken_without_alpha.Goals as goal
 
 pub uneven-x-requires : goal.uneven-x-requires
-uneven-x-requires c = along_of c.requires X
+uneven-x-requires c = spans_of c.args.survey.now.floor X c.spans_along.ensures
 
 pub uneven-y-requires : goal.uneven-y-requires
-uneven-y-requires c = along_of c.requires Y
-
-pub returns-then-either : goal.returns-then-either
-returns-then-either c = rw (← c.uneven-x.ensures, ← c.uneven-y.ensures, ← c.either.ensures, c.if-either.true)
-
-pub returns-then-slender : goal.returns-then-slender
-returns-then-slender c = rw (← c.uneven-x.ensures, ← c.uneven-y.ensures, ← c.either.ensures, c.if-either.false, ← c.slender.ensures, c.if-slender.true)
-
-pub returns-else-slender : goal.returns-else-slender
-returns-else-slender c = rw (← c.uneven-x.ensures, ← c.uneven-y.ensures, ← c.either.ensures, c.if-either.false, ← c.slender.ensures, c.if-slender.false) c.astray.ensures
+uneven-y-requires c = spans_of c.args.survey.now.floor Y c.spans_along-2.ensures

@@ -1,20 +1,18 @@
--- Refused, or the floor is accepted and its limits decide.
+-- Refused with the floor's number, or its limits decide.
 -- Assumes nothing.
-use mathlib.Core.Path.{ap, sym, ◌∙◌}
-use borrow.Author.Tests.{eq-eqb, ne_eqb}
-use Rattle.answers.specs.Answers.{answer}
-use Rattle.clear.specs.Answers.{yes_no, clear_of}
+use mathlib.Core.Path.{◌∙◌}
+use Rattle.std.proofs.lemmas.Result.{err_from_is_err_and}
+use Rattle.clear.specs.Answers.{clear_of}
+use Rattle.clear.proofs.Answers.{yes_byte}
+use Rattle.verdict.proofs.Query.{query_refused, query_answered}
 use Rattle.clear.proofs.clear.Goals as goal
 
-pub returns-then-number-ne0 : goal.returns-then-number-ne0
+pub returns-in_err-accept : goal.returns-in_err-accept
 unfolding clear_of
-returns-then-number-ne0 c = rw (← c.refusal-number.ensures, ne_eqb _ _ c.if-number-ne0.true) c.refused_query.ensures
-
-pub is_clear-requires : goal.is_clear-requires
-unfolding clear_of
-is_clear-requires c = record { accepted = sym c.refusal-number.ensures ∙ c.if-number-ne0.false }
+returns-in_err-accept c =
+    let told = err_from_is_err_and c.from_residual.result c.from_residual.ensures.1 in
+    rw (told.1, told.2) (query_refused _ _ c.in_err-accept.ensures)
 
 pub returns : goal.returns
 unfolding clear_of
-returns c = rw (← c.refusal-number.ensures, eq-eqb _ _ c.if-number-ne0.false)
-    (c.success.ensures ∙ ap (answer 0) (c.yes_no.ensures ∙ ap yes_no c.is_clear.ensures))
+returns c = query_answered c.in_ok-accept.ensures (c.from.ensures ∙ yes_byte c.is_clear.ensures)

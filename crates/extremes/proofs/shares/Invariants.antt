@@ -1,14 +1,10 @@
 -- The loop's invariant: p or q of the bays passed is stored.
 -- Assumes nothing.
-use Prim.Native.Nat.{◌-◌, ◌≤◌}
+use Prim.Native.Nat.{ℕ, ◌<◌}
 use mathlib.Core.Path.{◌≡◌}
-use lib.ListN.{length}
-use Rattle.lines.proofs.Filled.{Filled}
-use Rattle.extremes.specs.Extremes.{share_at}
+use lib.ListN.{length, get_or}
+use Rattle.extremes.specs.Extremes.{share_of}
 use Rattle.extremes.proofs.shares.Given as goal
 
 abbrev pub invariant-loop-k : goal.invariant-loop-k
-invariant-loop-k l = (l.k ≤ l.n) × (length l.p ≡ 13) × Filled (share_at l.a l.s) 0 l.k l.p
-
-abbrev pub decreases-loop-k : goal.decreases-loop-k
-decreases-loop-k l = l.n - l.k
+invariant-loop-k l = (length l.p ≡ 13) × ((i : ℕ) → i < l.k → get_or l.p i 0 ≡ share_of l.lines.survey.floor.bytes.now l.fn.d i)

@@ -1,7 +1,7 @@
 -- The loop's invariant: the records of the spans passed are written, and nothing else.
 -- Assumes nothing.
 use Prim.Native.Nat.{◌≤◌}
-use mathlib.Core.Path.{◌≡◌, refl, sym, ◌∙◌}
+use mathlib.Core.Path.{◌≡◌, sym, ◌∙◌}
 use native.Mathlib.Nat.{sub_self}
 use native.Mathlib.Omega.{arith}
 use borrow.Author.Rules.{rules}
@@ -15,17 +15,14 @@ use Rattle.frames.proofs.write_spans.Goals as goal
 pub line_first-first-requires : goal.line_first-first-requires
 line_first-first-requires c = on_line _ _ _ _ _ _ _ c.requires
 
-pub line_view-line-requires : goal.line_view-line-requires
-line_view-line-requires c = c.requires.standing.shared
-
-pub bounds-alphas-at : goal.bounds-alphas-at
-bounds-alphas-at c = omega (arith, line_few _ _ _ _ _ _ _ c.requires)
+pub bounds-alphas-l : goal.bounds-alphas-l
+bounds-alphas-l c = omega (arith, line_few _ _ _ _ _ _ _ c.requires)
 
 pub line_work-work-requires : goal.line_work-work-requires
 line_work-work-requires c = line_worked _ _ _ _ _ _ _ c.requires c.line_view-line.ensures
 
 pub loop-s-init : goal.loop-s-init
-loop-s-init c = (search rules, c.requires.order, rw sub_self (sym (from_none record_width every _ _ _)), refl)
+loop-s-init c = rw sub_self (sym (from_none record_width every _ _ _))
 
 pub overflow_add-first : goal.overflow_add-first
 overflow_add-first c = let s : c.loop-s.s ≤ 12 = omega (arith, spans_few _ _ _ _ _ _ _ c.requires) in
@@ -34,22 +31,12 @@ overflow_add-first c = let s : c.loop-s.s ≤ 12 = omega (arith, spans_few _ _ _
 pub write_span-requires : goal.write_span-requires
 write_span-requires c = let p = c.requires in
     at_span _ _ _ _ _ _ _ p (first_is _ _ _ _ _ _ _ p c.line_first-first.ensures.0) c.line_view-line.ensures c.line_work-work.ensures (search rules) _
-    c.loop-s.invariant.3
-
-pub overflow_add-s : goal.overflow_add-s
-overflow_add-s c = omega (arith, spans_few _ _ _ _ _ _ _ c.requires)
+    c.loop-s.auto.table
 
 pub loop-s-preserved : goal.loop-s-preserved
 loop-s-preserved c = let p = c.requires in
-    let i = c.loop-s.invariant in (
-      search rules,
-      search rules,
-      c.write_span.ensures
-          ∙ next_span _ _ _ _ _ _ _ p _ (first_is _ _ _ _ _ _ _ p c.line_first-first.ensures.0) i.0 i.2,
-      search rules,
-    )
+    c.write_span.ensures ∙ next_span _ _ _ _ _ _ _ p _ (first_is _ _ _ _ _ _ _ p c.line_first-first.ensures.0) c.loop-s.auto.s c.loop-s.invariant
 
 pub returns : goal.returns
-returns c = let i = c.loop-s.invariant in
-    let e : c.loop-s.s ≡ c.args.spans.to = omega arith in
-    i.2 ∙ rw e
+returns c = let e : c.loop-s.s ≡ c.args.spans.end = omega (arith, c.requires.order) in
+    c.loop-s.invariant ∙ rw e

@@ -4,14 +4,8 @@ use native.Mathlib.Omega.{arith}
 use Rattle.places.proofs.AtPlace.{column_is, column_few}
 use Rattle.places.proofs.astray_at.Goals as goal
 
-pub offset-requires : goal.offset-requires
-offset-requires c = c.requires.row.columns.sized
-
 pub bounds-x-k : goal.bounds-x-k
 bounds-x-k c = omega (arith, column_few c.requires)
-
-pub offset-requires-2 : goal.offset-requires-2
-offset-requires-2 c = c.requires.row.columns.sized
 
 pub bounds-y-m : goal.bounds-y-m
 bounds-y-m c = omega (arith, column_few c.requires)

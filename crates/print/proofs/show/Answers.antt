@@ -5,4 +5,4 @@ use Rattle.print.proofs.show.Goals as goal
 
 pub returns : goal.returns
 unfolding blank
-returns g c = λ e. c.sheet-sent.ensures.taken e
+returns g c = c.in_ok-sheet.ensures.taken

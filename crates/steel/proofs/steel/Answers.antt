@@ -6,18 +6,16 @@ use Rattle.steel.proofs.Ranges.{says_in_range}
 use Rattle.steel.proofs.Bounds.{searchable}
 use Rattle.steel.proofs.steel.Goals as goal
 
-pub limits_of-requires : goal.limits_of-requires
+pub returns-then-not-in_range : goal.returns-then-not-in_range
 unfolding steel_of
-limits_of-requires c = (says_in_range _).holds (sym c.in_range.ensures ∙ c.if-in_range.true)
+returns-then-not-in_range c = rw (← c.in_range.ensures, c.if-not-in_range.true)
+
+pub limits_of-requires : goal.limits_of-requires
+limits_of-requires c = (says_in_range _).holds (sym c.in_range.ensures ∙ c.if-not-in_range.false)
 
 pub least_within-requires : goal.least_within-requires
-unfolding steel_of
-least_within-requires c = rw c.limits_of.ensures (searchable ((says_in_range _).holds (sym c.in_range.ensures ∙ c.if-in_range.true)))
+least_within-requires c = rw c.limits_of.ensures (searchable ((says_in_range _).holds (sym c.in_range.ensures ∙ c.if-not-in_range.false)))
 
-pub returns-then-in_range : goal.returns-then-in_range
+pub returns : goal.returns
 unfolding steel_of
-returns-then-in_range c = rw (← c.in_range.ensures, c.if-in_range.true, ← c.limits_of.ensures) c.least_within.ensures
-
-pub returns-else-in_range : goal.returns-else-in_range
-unfolding steel_of
-returns-else-in_range c = rw (← c.in_range.ensures, c.if-in_range.false) c.refused_query.ensures
+returns c = rw (← c.in_range.ensures, c.if-not-in_range.false, ← c.limits_of.ensures) c.least_within.ensures

@@ -17,8 +17,8 @@ overflow_mul-bar c = fits (c.requires.bar_most ⊗ c.requires.strip.width_most) 
 
 pub whole_tens-requires : goal.whole_tens-requires
 unfolding widest
-whole_tens-requires c = omega (arith, c.smaller.ensures, c.requires.strip.slab_most)
+whole_tens-requires c = omega (arith, c.min.ensures, c.requires.strip.slab_most)
 
 pub returns : goal.returns
 unfolding widest
-returns c = exactly (λ (r : ℕ). r ≤ 1000) (c.whole_tens.ensures ∙ rw c.smaller.ensures) (most _ _ c.requires.strip.slab_most)
+returns c = exactly (λ (r : ℕ). r ≤ 1000) (c.whole_tens.ensures ∙ rw c.min.ensures) (most _ _ c.requires.strip.slab_most)

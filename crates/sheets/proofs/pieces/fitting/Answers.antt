@@ -1,15 +1,8 @@
--- The lesser of the two, by the definition's own test.
+-- The lesser of the two, by the definition's own test (piece_is).
 -- Assumes nothing.
-use borrow.Author.Tests.{lt-ltb, le-ltb}
-use Rattle.sheets.specs.Pieces.{piece}
+use Rattle.std.proofs.Common.{rules}
+use Rattle.sheets.proofs.Cuts.{piece_is}
 use Rattle.sheets.proofs.pieces.fitting.Goals as goal
 
-ruleset tests = (lt-ltb, le-ltb)
-
-pub returns-then-left-most : goal.returns-then-left-most
-unfolding piece
-returns-then-left-most c = search tests
-
-pub returns-else-left-most : goal.returns-else-left-most
-unfolding piece
-returns-else-left-most c = search tests
+pub returns : goal.returns
+returns c = rw (← piece_is c.args.width c.args.left) (search rules)

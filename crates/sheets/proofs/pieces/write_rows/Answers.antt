@@ -6,7 +6,6 @@ use Prim.Native.Nat.{ℕ, ◌+◌, ◌*◌, ◌-◌, ◌≤◌, ◌<◌}
 use native.Mathlib.Nat.{mul-le-mul_right}
 use native.Mathlib.Omega.{arith}
 use borrow.Author.Rules.{rules}
-use borrow.Author.Tests.{not-false}
 use Rattle.sheets.specs.Pieces.{piece}
 use Rattle.sheets.proofs.Texts.{lines_add}
 use Rattle.sheets.proofs.Cuts.{piece_some, piece_within, piece_fits, cut_off}
@@ -25,8 +24,8 @@ module _ {width count done n : ℕ} (some : 1 ≤ width) (more : done < count) (
 pub loop-done-init : goal.loop-done-init
 loop-done-init g c = (refl, omega arith, omega arith, Appends-nil _)
 
-pub write_piece-piece-requires : goal.write_piece-piece-requires
-write_piece-piece-requires g c = record {
+pub write_piece-requires : goal.write_piece-requires
+write_piece-requires g c = record {
   some = search rules;
   held = omega (arith, held c.requires.some c.loop-done-test.true c.fitting-n.ensures, c.requires.held);
   fits = piece_fits _ _ _ c.fitting-n.ensures c.requires.some;
@@ -34,11 +33,15 @@ write_piece-piece-requires g c = record {
 
 pub overflow_add-total : goal.overflow_add-total
 overflow_add-total g c =
-    omega (arith, held c.requires.some c.loop-done-test.true c.fitting-n.ensures, c.loop-done.invariant.1, c.write_piece-piece.ensures.printed.1, c.requires.held, c.requires.countable)
+    omega (arith, held c.requires.some c.loop-done-test.true c.fitting-n.ensures, c.loop-done.invariant.1, (rw c.in-Ok.is at c.write_piece.ensures.printed.1), c.requires.held, c.requires.countable)
 
-pub returns-then-not-piece-clause-printed : goal.returns-then-not-piece-clause-printed
-returns-then-not-piece-clause-printed g c =
-    (cut_off refl, omega (arith, held c.requires.some c.loop-done-test.true c.fitting-n.ensures, c.loop-done.invariant.1, c.write_piece-piece.ensures.printed.1))
+pub overflow_add-bytes : goal.overflow_add-bytes
+overflow_add-bytes g c =
+    omega (arith, held c.requires.some c.loop-done-test.true c.fitting-n.ensures, c.loop-done.invariant.1, (rw c.in-Err.is at c.write_piece.ensures.printed.1), c.requires.held, c.requires.countable)
+
+pub returns-in-Err-clause-printed : goal.returns-in-Err-clause-printed
+returns-in-Err-clause-printed g c =
+    (cut_off refl, omega (arith, held c.requires.some c.loop-done-test.true c.fitting-n.ensures, c.loop-done.invariant.1, (rw c.in-Err.is at c.write_piece.ensures.printed.1)))
 
 pub overflow_add-done : goal.overflow_add-done
 overflow_add-done g c = omega (arith, few c.requires.some c.loop-done-test.true c.fitting-n.ensures, c.ranges.count)
@@ -50,10 +53,10 @@ loop-done-smaller g c =
 
 pub loop-done-preserved : goal.loop-done-preserved
 loop-done-preserved g c = (
-  lines_add c.args.width c.loop-done.done c.fitting-n.result c.args.table.now c.loop-done.invariant.0 (c.write_piece-piece.ensures.printed.0.all (not-false _ c.if-not-piece.false)),
-  omega (arith, c.loop-done.invariant.1, c.write_piece-piece.ensures.printed.1),
+  lines_add c.args.width c.loop-done.done c.fitting-n.result c.args.table.now c.loop-done.invariant.0 ((rw c.in-Ok.is at c.write_piece.ensures.printed.0).all refl),
+  omega (arith, c.loop-done.invariant.1, (rw c.in-Ok.is at c.write_piece.ensures.printed.1)),
   few c.requires.some c.loop-done-test.true c.fitting-n.ensures,
-  grew_lines _ _ _ c.args.width c.loop-done.done c.fitting-n.result c.args.table.now c.loop-done.invariant.3 (c.write_piece-piece.ensures.taken (not-false _ c.if-not-piece.false)),
+  grew_lines _ _ _ c.args.width c.loop-done.done c.fitting-n.result c.args.table.now c.loop-done.invariant.3 ((rw c.in-Ok.is at c.write_piece.ensures.taken) refl),
 )
 
 pub returns : goal.returns

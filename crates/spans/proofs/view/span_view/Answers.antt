@@ -1,16 +1,13 @@
--- Each callee's equation in turn.
+-- Each callee's equation in turn; the last span is that of the slab at hand.
 -- Assumes nothing.
 use Rattle.lines.proofs.Slabs.{sized_of}
+use Rattle.spans.specs.Views.{low_end, high_end}
+use Rattle.spans.proofs.AtHand.{along_of}
 use Rattle.spans.proofs.view.span_view.Goals as goal
 
-pub span-requires : goal.span-requires
-span-requires c = sized_of _ c.requires.shared
-
-pub low_end-requires : goal.low_end-requires
-low_end-requires c = sized_of _ c.requires.shared
-
-pub high_end-requires : goal.high_end-requires
-high_end-requires c = record { sized = sized_of _ c.requires.shared; few = c.requires.few }
+pub invariant_of-plan : goal.invariant_of-plan
+invariant_of-plan c = record { sized = sized_of _ c.requires.shared }
 
 pub returns : goal.returns
-returns c = cc
+unfolding low_end high_end
+returns c = cc (along_of _ c.requires.shared c.args.d)

@@ -1,9 +1,10 @@
--- Refused, or the floor is accepted and the rest is tried.
+-- Refused with the floor's number, or the floor is accepted and the rest is tried.
 -- Assumes nothing.
-use mathlib.Core.Path.{◌∙◌}
-use Rattle.steel.proofs.Scheduled.{floor_refuses, refused_is}
+use Rattle.std.proofs.lemmas.Result.{err_from_is_err_and}
+use Rattle.steel.proofs.Scheduled.{refused_floor}
 use Rattle.steel.proofs.schedule.schedule.Goals as goal
 
-pub returns-then-number-ne0 : goal.returns-then-number-ne0
-returns-then-number-ne0 c = let r = refused_is _ _ (floor_refuses _ _ c.refusal-number.ensures c.if-number-ne0.true) c.if-number-ne0.true in
-    record { answer = c.refused_query.ensures ∙ r.answer; schedule = r.schedule }
+pub returns-in_err-accept : goal.returns-in_err-accept
+returns-in_err-accept c =
+    let told = err_from_is_err_and c.from_residual.result c.from_residual.ensures.1 in
+    rw (told.1, told.2) (refused_floor _ _ _ c.in_err-accept.ensures)

@@ -1,7 +1,6 @@
 -- The loop keeps: no area within the limits below `area` carries the moment.
 -- Assumes nothing.
 use Prim.Native.Nat.{ℕ, ◌*◌, ◌≤◌, ◌<◌}
-use mathlib.Core.Path.{◌∙◌}
 use native.Mathlib.Nat.{le_trans, lt_of_le_of_lt, mul-pos}
 use native.Mathlib.Omega.{arith}
 use lib.Dec.{lit<}
@@ -40,7 +39,7 @@ overflow_mul-carried-in-loop-area-2 c = fits (# _ ⊗ most_tension _ c.requires 
 
 pub returns-then-load-carried : goal.returns-then-load-carried
 returns-then-load-carried c = let i = c.loop-area.invariant in
-    c.success.ensures ∙ met c.requires i.1 i.0 (omega arith) (omega arith)
+    met c.requires i.1 i.0 (omega arith) (omega arith)
 
 pub overflow_mul-tension-in-loop-area : goal.overflow_mul-tension-in-loop-area
 overflow_mul-tension-in-loop-area c = fits (# _ ⊗ most_tension _ c.requires c.loop-area-test.true) tt
@@ -71,4 +70,4 @@ loop-area-preserved c = let s = c.requires in
     (search rules, rw c.rounded_up-area.ensures (on s c.loop-area.invariant.1))
 
 pub returns : goal.returns
-returns c = c.refused_query.ensures ∙ none c.requires c.loop-area.invariant.1 (omega arith)
+returns c = none c.requires c.loop-area.invariant.1 (omega arith)

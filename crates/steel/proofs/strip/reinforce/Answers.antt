@@ -1,17 +1,25 @@
--- By cases (Reinforced): no width, no area, or the bars of the area found.
+-- By cases (Reinforced): no width, no area, no bars, or the bars of the area found.
 -- Assumes nothing.
-use mathlib.Core.Path.{◌∙◌}
-use Rattle.steel.proofs.Reinforced.{no_width, no_area, laid_is, reinforced}
+use mathlib.Core.Path.{refl, sym, ap, ◌∙◌}
+use Rattle.steel.specs.Strips.{if_reinforced}
+use Rattle.steel.proofs.Reinforced.{found, missing, no_width, no_area, no_steel, some_steel, reinforced}
 use Rattle.steel.proofs.strip.reinforce.Goals as goal
 
 pub returns-then-width-eq0 : goal.returns-then-width-eq0
-returns-then-width-eq0 c = c.none.ensures ∙ no_width _ c.if-width-eq0.true
+returns-then-width-eq0 c = ap if_reinforced (no_width _ c.if-width-eq0.true)
 
-pub returns-then-steel-ne0 : goal.returns-then-steel-ne0
-returns-then-steel-ne0 c = c.none-then-steel-ne0.ensures ∙ no_area _ c.if-width-eq0.false c.steel-steel.ensures c.if-steel-ne0.true
+pub returns-in_err-area : goal.returns-in_err-area
+returns-in_err-area c =
+    c.from_residual.ensures ∙ ap if_reinforced (no_area _ c.if-width-eq0.false c.steel.ensures (missing _ (sym c.ok.ensures.value ∙ c.in_err-area.was)))
 
-pub bars_for-bars-requires : goal.bars_for-bars-requires
-bars_for-bars-requires c = reinforced _ c.steel-steel.ensures c.if-steel-ne0.false
+pub bars_for-requires : goal.bars_for-requires
+bars_for-requires c = reinforced _ (sym (found _ (sym c.ok.ensures.value ∙ c.in_ok-area.was)) ∙ c.steel.ensures) refl
+
+pub returns-in_err-bars : goal.returns-in_err-bars
+returns-in_err-bars c =
+    c.from_residual-in_err-bars.ensures
+    ∙ no_steel _ c.if-width-eq0.false (sym (found _ (sym c.ok.ensures.value ∙ c.in_ok-area.was)) ∙ c.steel.ensures) refl c.bars_for.ensures c.in_err-bars.was
 
 pub returns : goal.returns
-returns c = laid_is _ c.if-width-eq0.false c.steel-steel.ensures c.if-steel-ne0.false c.bars_for-bars.ensures
+returns c =
+    some_steel _ c.if-width-eq0.false (sym (found _ (sym c.ok.ensures.value ∙ c.in_ok-area.was)) ∙ c.steel.ensures) refl c.bars_for.ensures c.in_ok-bars.was

@@ -11,14 +11,14 @@ use Rattle.tables.proofs.named.named_spans.Goals as goal
 use Rattle.tables.proofs.named.named_spans.Goals.{then-l-index, else-l-index}
 
 pub returns-then-kind-eq-LOADS : goal.returns-then-kind-eq-LOADS
-returns-then-kind-eq-LOADS c = c.all_spans.ensures ∙ sym (at_loads _ _ _ _ _ c.if-kind-eq-LOADS.true)
+returns-then-kind-eq-LOADS c = sym (at_loads _ _ _ _ _ c.if-kind-eq-LOADS.true)
 
 pub returns-then-kind-span_kind : goal.returns-then-kind-span_kind
 returns-then-kind-span_kind c = sym (at_own_span _ _ _ _ _ (c.if-kind-span_kind.true ∙ c.span_kind.ensures))
 
 pub returns-then-kind-span_kind-2 : goal.returns-then-kind-span_kind-2
 returns-then-kind-span_kind-2 c = let a = c.args in
-    let test : c.if-l-index.whole_if ≡ (eqb a.l a.index || eqb a.l (a.index + 1)) =
+    let test : c.if-l-index.whole_if ≡ (eqb a.l a.named.index || eqb a.l (a.named.index + 1)) =
     elim c.if-l-index.branch [
       | then-l-index w ↦ w.whole_if-is ∙ eq-eqb _ _ w.if-l-index.true ∙ rw (eq-eqb _ _ w.if-l-index.true)
       | else-l-index w ↦ rw (ne_eqb _ _ w.if-l-index.false) w.whole_if-is

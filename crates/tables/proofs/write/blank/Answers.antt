@@ -1,8 +1,7 @@
 -- After k turns the first k records are zeros (written_more: one record more).
 -- Assumes nothing.
-use mathlib.Core.Path.{◌≡◌, refl, sym}
+use mathlib.Core.Path.{◌≡◌, sym}
 use native.Mathlib.Omega.{arith}
-use borrow.Author.Rules.{rules}
 use Rattle.numbers.specs.Records.{every}
 use Rattle.numbers.proofs.Written.{from_none, written_more}
 use Rattle.tables.specs.Width.{record_width}
@@ -10,15 +9,10 @@ use Rattle.tables.specs.Blank.{zeros, blanked}
 use Rattle.tables.proofs.write.blank.Goals as goal
 
 pub loop-k-init : goal.loop-k-init
-loop-k-init c = (search rules, sym (from_none record_width every zeros 0 _), refl)
-
-pub write_record-requires : goal.write_record-requires
-write_record-requires c = search (rules, c.requires)
+loop-k-init c = sym (from_none record_width every zeros 0 _)
 
 pub loop-k-preserved : goal.loop-k-preserved
-loop-k-preserved c = let a = c.args in
-    let l = c.loop-k in
-    (search rules, cc (written_more record_width every zeros l.k a.table.now), search rules)
+loop-k-preserved c = cc (written_more record_width every zeros c.loop-k.k c.args.table.now)
 
 pub returns : goal.returns
 unfolding blanked

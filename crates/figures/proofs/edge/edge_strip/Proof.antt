@@ -1,9 +1,0 @@
--- A line with one span.
--- Assumes nothing.
-use borrow.Author.Rules.{rules}
-use Rattle.figures.proofs.OneSpan.{edge}
-use Rattle.figures.proofs.edge.edge_strip.Statement.{statement}
-use Rattle.figures.proofs.edge.edge_strip.Tie as tie
-
-pub edge_strip_spec : {M : Type 1} → statement M
-edge_strip_spec = tie.close (tie.spec (λ c κs. edge c.requires.0 c.requires.1) (λ c. search rules))

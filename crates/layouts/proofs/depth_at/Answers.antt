@@ -1,0 +1,8 @@
+-- Each callee's equation in turn.
+-- Assumes nothing.
+use Rattle.layouts.specs.Layouts.{keeps}
+use Rattle.layouts.proofs.depth_at.Goals as goal
+
+pub returns : goal.returns
+unfolding keeps
+returns c = cc
