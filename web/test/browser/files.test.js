@@ -1,9 +1,8 @@
 // Files opened and saved: what is damaged is refused in words and what was open stays, what is right is saved as it was opened.
 
 import assert from 'node:assert/strict';
-import { existsSync, readFileSync } from 'node:fs';
+import { readFileSync } from 'node:fs';
 import { join } from 'node:path';
-import { setTimeout } from 'node:timers/promises';
 import { beforeEach, test } from 'node:test';
 import { garageWith } from './floors.js';
 import { morning } from './morning.js';
@@ -114,28 +113,16 @@ test('a text that is right is opened, as slab make makes it', async () => {
     assert.equal((await page.message()).words, '');
 });
 
-/**
- * Waits for the browser to have saved it whole.
- * @param {string} name
- */
-async function saved(name) {
-    const file = join(seat.page.downloads, name);
-    for (let looks = 0; looks < 1000 && !existsSync(file); looks += 1) {
-        await setTimeout(20);
-    }
-    return readFileSync(file);
-}
-
 test('a floor that was opened is saved with the same bytes, and its text is that of slab text', async () => {
     const { page, browser } = seat;
     for (const seed of [5, 6, 7]) {
         const { bytes } = morning(seed, 0).floor;
         await page.openFile(`drawn ${seed}.floor`, bytes);
         await browser.click('#save');
-        assert.equal(hex(await saved(`drawn ${seed}.floor`)), hex(bytes));
+        assert.equal(hex(await page.saved(`drawn ${seed}.floor`)), hex(bytes));
         await browser.click('#save-text');
         const { stdout } = slab(['text', page.file('drawn.floor', bytes)]);
-        assert.equal(String(await saved(`drawn ${seed}.txt`)), String(stdout));
+        assert.equal(String(await page.saved(`drawn ${seed}.txt`)), String(stdout));
     }
 });
 
@@ -144,7 +131,7 @@ test('a saved text is opened again as the same floor', async () => {
     const { bytes } = morning(8, 0).floor;
     await page.openFile('round.floor', bytes);
     await browser.click('#save-text');
-    const text = await saved('round.txt');
+    const text = await page.saved('round.txt');
     await browser.click('#example');
     assert.equal(await page.bytes(), hex(GARAGE));
     await page.openFile('again.txt', text);

@@ -1,10 +1,7 @@
 // A hand that does two things at once, lines that lie close, floors and names that are large: nothing is lost, taken wrongly or pushed out of sight.
 
 import assert from 'node:assert/strict';
-import { existsSync, readFileSync } from 'node:fs';
-import { join } from 'node:path';
 import { beforeEach, test } from 'node:test';
-import { setTimeout } from 'node:timers/promises';
 import { bytesOf, floorOf } from '../../src/floor.js';
 import { garageWith } from './floors.js';
 import { gripOf, pathOf } from './lines.js';
@@ -31,11 +28,7 @@ test('a number that is typed and not sent yet is in what is saved by the keyboar
     const { page, browser } = seat;
     await browser.type('#live', '9000');
     await browser.press(['Control', 's']);
-    const saved = join(page.downloads, 'garage.floor');
-    for (let tries = 0; tries < 200 && !existsSync(saved); tries += 1) {
-        await setTimeout(50);
-    }
-    assert.equal(hex(readFileSync(saved)), HEAVY);
+    assert.equal(hex(await page.saved('garage.floor')), HEAVY);
 });
 
 test('a floor that is opened while a line is in hand is not moved by it', async () => {

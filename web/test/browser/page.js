@@ -2,9 +2,10 @@
 
 import assert from 'node:assert/strict';
 import { execFileSync } from 'node:child_process';
-import { existsSync, mkdirSync, mkdtempSync, readFileSync, rmSync, writeFileSync } from 'node:fs';
+import { existsSync, mkdirSync, mkdtempSync, readFileSync, rmSync, statSync, writeFileSync } from 'node:fs';
 import { tmpdir } from 'node:os';
 import { join } from 'node:path';
+import { setTimeout } from 'node:timers/promises';
 import { fileURLToPath, pathToFileURL } from 'node:url';
 import { after, before } from 'node:test';
 import { Browser } from './driver.js';
@@ -114,6 +115,18 @@ export class Page {
         const before = await this.browser.run(answered);
         await this.browser.send('#file', this.file(name, content));
         await this.browser.until(`(old) => (${answered})() !== old`, before);
+    }
+
+    /**
+     * What the browser has saved, once it has: it keeps the name with an empty file, and puts what it wrote in its place as a whole.
+     * @param {string} name
+     */
+    async saved(name) {
+        const file = join(this.downloads, name);
+        for (let looks = 0; looks < 1000 && !statSync(file, { throwIfNoEntry: false })?.size; looks += 1) {
+            await setTimeout(20);
+        }
+        return readFileSync(file);
     }
 
     /**

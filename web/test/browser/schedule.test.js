@@ -4,7 +4,6 @@ import assert from 'node:assert/strict';
 import { existsSync, readdirSync, readFileSync } from 'node:fs';
 import { join } from 'node:path';
 import { beforeEach, test } from 'node:test';
-import { setTimeout } from 'node:timers/promises';
 import { floorOf } from '../../src/floor.js';
 import { slab } from '../slab.js';
 import { changedGarage, HEAVY_FLOOR, WIDE_BEAMS } from './floors.js';
@@ -97,18 +96,6 @@ test('bars are those of the floor as it is after a change, an undo and a redo', 
     assert.deepEqual(await browser.run(barsOfAllFrames), changed);
 });
 
-/**
- * Waits for the browser to have saved it whole.
- * @param {string} name
- */
-async function saved(name) {
-    const file = join(seat.page.downloads, name);
-    for (let looks = 0; looks < 1000 && !existsSync(file); looks += 1) {
-        await setTimeout(20);
-    }
-    return readFileSync(file);
-}
-
 /** What was saved up to now, and what is still being saved. */
 function downloads() {
     return existsSync(seat.page.downloads) ? readdirSync(seat.page.downloads).sort() : [];
@@ -117,14 +104,14 @@ function downloads() {
 test('the file for the yard is the one of slab schedule, also of what was typed last', async () => {
     const { page, browser } = seat;
     await browser.click('#save-schedule');
-    assert.equal(hex(await saved('garage.schedule')), hex(scheduleOfSlab(GARAGE)));
+    assert.equal(hex(await page.saved('garage.schedule')), hex(scheduleOfSlab(GARAGE)));
     await page.lay(GARAGE, 'deck 2');
     await browser.type('#live', '9000');
     await browser.click('#save-schedule');
     const typed = changedGarage((floor) => {
         floor.live = 9000;
     });
-    assert.equal(hex(await saved('deck 2.schedule')), hex(scheduleOfSlab(typed)));
+    assert.equal(hex(await page.saved('deck 2.schedule')), hex(scheduleOfSlab(typed)));
     assert.equal((await page.message()).words, '');
 });
 
@@ -144,7 +131,7 @@ for (const { what, bytes, refusal } of [
         assert.ok(message.words.includes(`refused ${refusal}: ${wordsOf('refusals').get(refusal) ?? 'no such refusal'}`), message.words);
         // A floor that is saved afterwards is there before a schedule that would have been saved first.
         await browser.click('#save');
-        assert.equal(hex(await saved(`refused ${what}.floor`)), hex(bytes));
+        assert.equal(hex(await page.saved(`refused ${what}.floor`)), hex(bytes));
         assert.deepEqual(downloads(), [...before, `refused ${what}.floor`].sort());
         assert.equal(await page.bytes(), hex(bytes));
     });
