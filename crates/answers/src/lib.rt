@@ -2,7 +2,7 @@
 #![tactic(auto)]
 
 ghost use Rattle.std.specs.Prelude.{◌≡◌};
-ghost use Rattle.answers.specs.Answers.{number, answer_or, verdict_answer, query_answer};
+ghost use Rattle.answers.specs.Answers.{answer, number, verdict_answer, query_answer};
 
 // Why a call is refused, in the order of the numbers of 01 and 02.
 #[derive(Clone, Copy)]
@@ -42,31 +42,50 @@ pub struct Answer {
     pub value: u32,
 }
 
-impl Answer {
-    // With the value that is given where the outcome is a refusal.
-    fn of(outcome: Result<u32, Refusal>, refused: u32) -> Answer
-        ensures { result ≡ answer_or refused outcome }
-    {
-        match outcome {
-            Ok(value) => Answer { refusal: 0, value },
-            Err(refusal) => Answer {
-                refusal: refusal.number(),
-                value: refused,
-            },
-        }
-    }
+pub fn success(value: u32) -> Answer
+    ensures { result ≡ answer 0 value }
+{
+    Answer { refusal: 0, value }
+}
 
-    // Of an opening or change: where it is refused, its verdict is one that no floor earns.
+// A refused opening or change, whose verdict is one that no floor earns.
+pub fn refused(number: u32) -> Answer
+    ensures { result ≡ answer number 255 }
+{
+    Answer {
+        refusal: number,
+        value: 255,
+    }
+}
+
+// A refused query, which answers 0 mm, 0 mm² or no.
+pub fn refused_query(number: u32) -> Answer
+    ensures { result ≡ answer number 0 }
+{
+    Answer {
+        refusal: number,
+        value: 0,
+    }
+}
+
+impl Answer {
+    // Of an opening or change.
     pub fn of_verdict(outcome: Result<u32, Refusal>) -> Answer
         ensures { result ≡ verdict_answer outcome }
     {
-        Answer::of(outcome, 255)
+        match outcome {
+            Ok(value) => success(value),
+            Err(refusal) => refused(refusal.number()),
+        }
     }
 
-    // Of a query: where it is refused, it answers 0 mm, 0 mm² or no.
+    // Of a query.
     pub fn of_query(outcome: Result<u32, Refusal>) -> Answer
         ensures { result ≡ query_answer outcome }
     {
-        Answer::of(outcome, 0)
+        match outcome {
+            Ok(value) => success(value),
+            Err(refusal) => refused_query(refusal.number()),
+        }
     }
 }
