@@ -3,6 +3,8 @@ ghost use Rattle.std.specs.Prelude.{◌≡◌, ◌+◌, ◌*◌, ◌≤◌, leng
 ghost use Rattle.numbers.specs.Records.{put, written_from, every};
 ghost use Rattle.bars.specs.Entries.{number_bytes, entry_numbers, eight_of, four_bytes, entry_at};
 
+use changes::store_at;
+
 // The table record and the section that it is of, the strip, and what is laid there.
 #[derive(Clone, Copy)]
 pub struct Entry {
@@ -22,13 +24,11 @@ pub const NUMBERS: usize = 8;
 pub const BYTES: usize = 4;
 
 // Number i of the schedule.
-// A number's bytes into bytes: with `write_record` of crate tables, which copies numbers, it shares one call of the library's method.
 fn write_number(schedule: &mut [u8], i: usize, n: u32)
     requires { i * number_bytes + number_bytes ≤ length schedule.old }
     ensures { schedule.new ≡ put number_bytes i (four_bytes n) schedule.old }
 {
-    let at = i * BYTES;
-    schedule[at..at + BYTES].copy_from_slice(&n.to_le_bytes());
+    store_at(schedule, i * BYTES, &n.to_le_bytes());
 }
 
 // In the order of the format. A From would hold the same list, and its call would not say what it lists.

@@ -1,15 +1,25 @@
--- Bytes stored, and a record put in a copy: the copy's front, as long as the floor, is the floor with the record put.
+-- Bytes stored one by one, and a record put in a copy: the copy's front, as long as the floor, is the floor with the record put.
 -- Assumes nothing.
-use Prim.Native.Nat.{ℕ, ◌+◌, ◌*◌, ◌≤◌}
+use Prim.Native.Nat.{ℕ, ◌+◌, ◌*◌, ◌<◌, ◌≤◌}
 use mathlib.Core.List.{List, ◌++◌, append_assoc}
-use mathlib.Core.Path.{◌≡◌, sym}
-use native.Mathlib.Nat.{zero-add}
+use mathlib.Core.Path.{◌≡◌, sym, ◌∙◌}
+use native.Mathlib.Nat.{le_antisymm, zero-add}
+use native.Mathlib.Numerals.{add-one}
 use native.Mathlib.Omega.{arith}
-use lib.ListN.{length, take, drop}
-use lib.Seq.{take-length, take_at, take-append-le, drop-append-le}
+use lib.ListN.{length, take, drop, get_or, set}
+use lib.Seq.{paste, paste-suc, take-length, take_at, take-append-le, drop-append-le}
 use Rattle.numbers.specs.Records.{put}
 use Rattle.numbers.proofs.Records.{length_put}
 use Rattle.changes.specs.Change.{stored}
+
+-- a turn of the loop, and its end
+module _ (d : List ℕ) (at : ℕ) (s : List ℕ) (j : ℕ) (l : List ℕ) (e : l ≡ paste d at s j) where
+  pub stored_more : at + j < length d → j < length s → set l (at + j) (get_or s j 0) ≡ paste d at s (j + 1)
+  stored_more hd hs = rw (e, add-one j) (paste-suc d at s j 0 hd hs)
+
+  pub stored_all : j ≤ length s → length s ≤ j → l ≡ stored d at s
+  unfolding stored
+  stored_all h k = e ∙ rw (le_antisymm h k)
 
 -- a whole record stored is a record put
 pub stored_put : (f : List ℕ) (q : ℕ) (c : List ℕ) → length c ≡ 16 → stored f (q * 16) c ≡ put 16 q c f

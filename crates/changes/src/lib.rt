@@ -50,12 +50,15 @@ fn change_place(b: Bays, c: &[u8]) -> u32
 }
 
 // The bytes of src stored from `at` on.
-// What it shares with `write_at` of crate tables, over numbers, is one call of the library's method, which is generic.
+// As `write_at` of crate tables stores numbers: not by the library's copy of a slice, which compares addresses as numbers. The page compiles this
+// module for addresses of 32 bits.
 pub fn store_at(dst: &mut [u8], at: usize, src: &[u8])
     requires { at + length src.now ≤ length dst.old }
     ensures { dst.new ≡ stored dst.old at src.now }
 {
-    dst[at..at + src.len()].copy_from_slice(src);
+    for j in 0..src.len() {
+        dst[at + j] = src[j];
+    }
 }
 
 // 5 to 7 of the whole changed floor, judged in a copy: a local array with room for any file (01, "Forms to follow in each place").

@@ -22,7 +22,8 @@ use Rattle.lines.specs.Rows.{row_of}
 use Rattle.spans.proofs.AtHand.{along_of}
 use Rattle.tables.specs.Width.{record_width}
 use Rattle.tables.specs.Places.{line_first}
-use Rattle.tables.specs.Named.{Spans, named_spans, named_at}
+use Rattle.tables.specs.declared.named.Spans.{Spans}
+use Rattle.tables.specs.Named.{named_spans, named_at}
 use Rattle.tables.specs.Asked.{Naming}
 use Rattle.tables.proofs.Meaning.{to_most, from_most, line_written}
 use Rattle.frames.specs.Asked.{Writable, InTable, InFrames, AtLine, AtSpans}

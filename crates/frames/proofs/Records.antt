@@ -1,11 +1,12 @@
 -- A span by its record's number: what is read of a table that has it and of the floor is the span, and its numbers keep these ranges.
 -- Assumes nothing.
-use Prim.Native.Nat.{zero-le, ℕ, zero, suc, ◌+◌, ◌*◌, ◌≤◌, ◌<◌}
+use Prim.Native.Nat.{zero-le, ℕ, zero, suc, ◌+◌, ◌-◌, ◌*◌, ◌≤◌, ◌<◌}
 use mathlib.Core.List.{List, [], ◌∷◌}
 use mathlib.Core.Path.{◌≡◌, refl, sym, ap, ◌∙◌}
 use native.Mathlib.Omega.{arith}
 use lib.ListN.{length, get_or, take, drop, length-drop}
-use lib.Seq.{ext_get_or, length-take-le, get_or-take, get_or-drop}
+use lib.Seq.{paste, ext_get_or, length-paste, length-take-le, get_or-take, get_or-drop}
+use Rattle.numbers.proofs.Records.{pasted_in}
 use Rattle.plan.specs.Plan.{span}
 use Rattle.floor.specs.Refusal.{refusal}
 use Rattle.limits.specs.Limits.{verdict}
@@ -124,3 +125,19 @@ module _ (f : List ℕ) (slab : Slab) (t : List ℕ) (k : ℕ) (h : AtRecord f s
         → record { numbers = numbers; way = p.way; outer = line.outer; beam = line.width; strip = strip; width = width } ≡ span_at f k
     unfolding span_at
     span_is q el en es ew = rw (en ∙ numbers_are, es, ew, line_at q, length_at el, ap (λ (x : Found). x.way) at_place)
+
+-- numbers in the place of as many others
+pub filled : (z x : List ℕ) → length z ≡ length x → paste z 0 x (length x) ≡ x
+filled z x e =
+    let fits : 0 + length x ≤ length z = omega (arith, e) in
+    let same = length-paste z 0 x (length x) fits (omega arith) in
+    ext_get_or 0 _ _ (same ∙ e)
+    (λ i h. let at : 0 + i ≡ i = omega arith in
+    rw at at (pasted_in z 0 x (length x) fits (omega arith) i (omega (arith, h, same, e))))
+
+-- of a table, the record that starts at `at`
+pub part_of : (z t : List ℕ) (at : ℕ) → length z ≡ record_width → at + record_width ≤ length t
+    → paste z 0 (take (at + record_width - at) (drop at t)) (length (take (at + record_width - at) (drop at t))) ≡ take record_width (drop at t)
+part_of z t at e room =
+    let w : at + record_width - at ≡ record_width = omega arith in
+    rw w (filled z (take record_width (drop at t)) (e ∙ sym (length-take-le record_width (drop at t) (omega (arith, room, length-drop at t)))))

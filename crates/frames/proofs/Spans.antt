@@ -24,7 +24,7 @@ use Rattle.spans.specs.Asked.{Sides, SlabbedSpan, WorkableSpan}
 use Rattle.lines.proofs.Slabs.{sized_of}
 use Rattle.spans.proofs.AtHand.{alpha_is}
 use Rattle.spans.proofs.Clear.{workable}
-use Rattle.tables.specs.Named.{Spans}
+use Rattle.tables.specs.declared.named.Spans.{Spans}
 use Rattle.tables.specs.Width.{record_width}
 use Rattle.tables.specs.Places.{Place, Inside, place_of, line_first_in, line_first}
 use Rattle.tables.proofs.Numbered.{bayed, line_starts, number_place, number_below, place_inside}

@@ -12,7 +12,7 @@ use Rattle.spans.specs.declared.view.LineView.{LineView}
 use Rattle.spans.specs.declared.work.LineWork.{LineWork}
 use Rattle.spans.specs.Views.{line_view}
 use Rattle.spans.specs.Works.{alpha_of, line_work}
-use Rattle.tables.specs.Named.{Spans}
+use Rattle.tables.specs.declared.named.Spans.{Spans}
 use Rattle.tables.specs.Places.{record_count, place_of}
 use Rattle.tables.specs.Width.{record_width}
 use Rattle.tables.specs.Asked.{Room}

@@ -8,7 +8,7 @@ ghost use Rattle.numbers.specs.Records.{put, written_from, every};
 ghost use Rattle.plan.specs.Plan.{bays, last_line};
 ghost use Rattle.tables.specs.Width.{record_width};
 ghost use Rattle.tables.specs.Places.{first_of, line_first};
-ghost use Rattle.tables.specs.Named.{named_at, from_to};
+ghost use Rattle.tables.specs.Named.{named_at};
 ghost use Rattle.frames.specs.Asked.{Writable, InFrames, AtLine, AtSpans, AtSpan};
 ghost use Rattle.frames.specs.Table.{record_at, named_written};
 
@@ -19,8 +19,7 @@ use plan::ways::{Way, across};
 use spans::record::record;
 use spans::view::{LineView, line_view, span_view};
 use spans::work::{LineWork, line_work};
-use std::ops::Range;
-use tables::named::{Named, named_spans};
+use tables::named::{Named, Spans, named_spans};
 use tables::places::line_first;
 use tables::write::write_record;
 
@@ -44,21 +43,14 @@ fn write_span(
 
 // Some spans of line l along d. What they share is read and worked out once.
 // Floor, table, α of the lines along d, and d come one by one, here and below, as `AtSpans`, `AtLine` and `InFrames` of specs/ take them.
-fn write_spans(
-    floor: Floor,
-    table: &mut [u32],
-    alphas: &[u64; 13],
-    d: Way,
-    l: u32,
-    spans: Range<u32>,
-)
-    requires { AtSpans floor.bytes.now table.old floor.slab alphas.now d l (from_to spans.start spans.end) }
-    ensures { table.new ≡ written_from record_width every (record_at floor.entry.bytes.now) (line_first floor.entry.bytes.now d l + spans.start) (spans.end - spans.start) table.old }
+fn write_spans(floor: Floor, table: &mut [u32], alphas: &[u64; 13], d: Way, l: u32, spans: Spans)
+    requires { AtSpans floor.bytes.now table.old floor.slab alphas.now d l spans }
+    ensures { table.new ≡ written_from record_width every (record_at floor.entry.bytes.now) (line_first floor.entry.bytes.now d l + spans.from) (spans.to - spans.from) table.old }
 {
     let first = line_first(floor.slab.bays, d, l);
     let line = line_view(floor.bytes, floor.slab, d, l);
     let work = line_work(line, alphas[l as usize]);
-    for s in spans.start..spans.end {
+    for s in spans.from..spans.to {
         write_span(floor, table, line, work, d, s, first + s);
     }
 }
@@ -69,7 +61,7 @@ fn write_line(floor: Floor, table: &mut [u32], alphas: &[u64; 13], named: Named,
     ensures { table.new ≡ written_from record_width (named_at floor.entry.bytes.now named.kind named.index) (record_at floor.entry.bytes.now) (line_first floor.entry.bytes.now d l) (bays floor.entry.bytes.now d) table.old }
 {
     let spans = named_spans(named, d, l, along(floor.slab.bays, d));
-    if spans.start < spans.end {
+    if spans.from < spans.to {
         write_spans(floor, table, alphas, d, l, spans);
     }
 }

@@ -12,7 +12,7 @@ use plan::read::along;
 use plan::ways::{Way, across, pick};
 use stiffness::line::{column_strip_width, frame_width};
 use tables::places::place_of;
-use tables::write::WIDTH;
+use tables::write::{WIDTH, write_at};
 
 // The numbers of its record; the direction; whether its line is an outer one, and the width of the beam there, 0 where there is none; wc and W.
 // The beam is no Option: a strip loses its width or half of it (02, Five), which at 0 is nothing.
@@ -32,7 +32,7 @@ fn numbers_of(table: &[u32], k: u32) -> [u32; WIDTH]
 {
     let at = k as usize * WIDTH;
     let mut numbers = [0u32; WIDTH];
-    numbers.copy_from_slice(&table[at..at + WIDTH]);
+    write_at(&mut numbers, 0, &table[at..at + WIDTH]);
     numbers
 }
 

@@ -41,7 +41,12 @@ pub fn number(limit: Limit) -> u32
 pub fn limit_at(k: u32) -> Limit
     ensures { result ≡ limit_at k }
 {
-    LIMITS.get(k as usize).copied().unwrap_or(Limit::Thin)
+    let at = k as usize;
+    if at < LIMITS.len() {
+        LIMITS[at]
+    } else {
+        Limit::Thin
+    }
 }
 
 // 1, of the bays along one direction.

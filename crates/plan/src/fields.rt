@@ -16,7 +16,8 @@ pub const C: u32 = 3;
 fn byte(f: &[u8], at: usize) -> u8
     ensures { result ≡ get_or f.now at 0 }
 {
-    f.get(at).copied().unwrap_or(0)
+    // Not by `get`, whose Option holds an address: the page compiles this module for addresses of 32 bits.
+    if at < f.len() { f[at] } else { 0 }
 }
 
 // Takes bytes one by one, as `four` does: an array made of a slice is a Result, with a failure that cannot be.

@@ -17,7 +17,8 @@ use Rattle.plan.specs.declared.read.Bays.{Bays}
 use Rattle.plan.specs.Ways.{span_kind}
 use Rattle.plan.specs.Plan.{bays, last_line, bays_of, many}
 use Rattle.tables.specs.Places.{Place, Inside}
-use Rattle.tables.specs.Named.{Spans, named_spans}
+use Rattle.tables.specs.declared.named.Spans.{Spans}
+use Rattle.tables.specs.Named.{named_spans}
 use Rattle.tables.proofs.Naming.{at_loads}
 use Rattle.tables.proofs.Meaning.{Of, says_among, span_there, to_most, says_named}
 use Rattle.supports.specs.Governing.{spans_of, last_of, support_count, support_place}

@@ -18,7 +18,8 @@ use Rattle.plan.specs.declared.ways.Way.TheVariants.{X, Y}
 use Rattle.plan.specs.declared.read.Bays.{Bays}
 use Rattle.plan.specs.Ways.{pick, across}
 use Rattle.tables.specs.Places.{Place, line_first_in}
-use Rattle.tables.specs.Named.{Spans, named_spans}
+use Rattle.tables.specs.declared.named.Spans.{Spans}
+use Rattle.tables.specs.Named.{named_spans}
 use Rattle.tables.specs.Asked.{Naming}
 use Rattle.tables.proofs.Meaning.{named_most}
 use Rattle.tables.proofs.Runs.{next_one}

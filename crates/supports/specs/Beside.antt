@@ -3,7 +3,8 @@
 use Rattle.std.specs.Prelude.{ℕ, Bool, ◌&&◌, ltb, leb}
 use Rattle.plan.specs.declared.read.Bays.{Bays}
 use Rattle.tables.specs.Places.{Place}
-use Rattle.tables.specs.Named.{Spans, named_spans}
+use Rattle.tables.specs.declared.named.Spans.{Spans}
+use Rattle.tables.specs.Named.{named_spans}
 use Rattle.supports.specs.Governing.{spans_of, support_place}
 
 -- support s is next to one of these spans

@@ -11,8 +11,7 @@ ghost use Rattle.tables.specs.Asked.{Bayed, OnLine};
 
 use plan::read::{Bays, along};
 use plan::ways::{Way, across, pick};
-use std::ops::Range;
-use tables::named::{Named, named_spans};
+use tables::named::{Named, Spans, named_spans};
 use tables::places::line_first;
 use tables::write::{WIDTH, write_record};
 
@@ -44,13 +43,18 @@ fn support_first(b: Bays, d: Way, l: u32) -> u32
     pick(d, 0, (ny + 1) * (nx + 1)) + l * (along(b, d) + 1)
 }
 
+// One by one, not by the library's copy of a slice: see `store_at` of crate changes.
 fn five_from(table: &[u32], at: usize) -> [u32; SUPPORT]
     requires { Section table.now at }
     ensures { result ≡ five_from table.now at }
 {
-    let mut five = [0u32; SUPPORT];
-    five.copy_from_slice(&table[at..at + SUPPORT]);
-    five
+    [
+        table[at],
+        table[at + 1],
+        table[at + 2],
+        table[at + 3],
+        table[at + 4],
+    ]
 }
 
 // All five from one face.
@@ -77,16 +81,16 @@ fn support(table: &[u32], first: usize, n: usize, s: usize) -> [u32; SUPPORT]
 
 // Of line l along d, the supports at either end of some spans. Table and bays are two parameters, here and below: `Supporting` and `support_at` of
 // specs/ take them apart, so that every clause would name the parts of a struct.
-fn write_supports(table: &[u32], governing: &mut [u32], b: Bays, d: Way, l: u32, spans: Range<u32>)
-    requires { AtSupports b table.now governing.old d l spans.start spans.end }
-    ensures { governing.new ≡ written_from support_width every (support_at b table.now) (support_first b d l + spans.start) (spans.end + 1 - spans.start) governing.old }
+fn write_supports(table: &[u32], governing: &mut [u32], b: Bays, d: Way, l: u32, spans: Spans)
+    requires { AtSupports b table.now governing.old d l spans.from spans.to }
+    ensures { governing.new ≡ written_from support_width every (support_at b table.now) (support_first b d l + spans.from) (spans.to + 1 - spans.from) governing.old }
 {
     let first = line_first(b, d, l) as usize;
     let start = support_first(b, d, l) as usize;
     let n = along(b, d) as usize;
     // Not an inclusive range, which tests a flag at each turn.
-    let end = spans.end as usize + 1;
-    for s in spans.start as usize..end {
+    let end = spans.to as usize + 1;
+    for s in spans.from as usize..end {
         write_record(governing, start + s, support(table, first, n, s));
     }
 }
@@ -99,7 +103,7 @@ fn write_line(table: &[u32], governing: &mut [u32], b: Bays, named: Named, d: Wa
     ensures { governing.new ≡ written_from support_width (beside_at b named.kind named.index) (support_at b table.now) (support_first b d l) (supports_of b d) governing.old }
 {
     let spans = named_spans(named, d, l, along(b, d));
-    if spans.start < spans.end {
+    if spans.from < spans.to {
         write_supports(table, governing, b, d, l, spans);
     }
 }

@@ -17,8 +17,9 @@ use Rattle.plan.specs.declared.ways.Way.{Way}
 use Rattle.plan.specs.Ways.{span_kind}
 use Rattle.plan.specs.Plan.{bays, last_line, many}
 use Rattle.plan.proofs.Directions.{span_count}
+use Rattle.tables.specs.declared.named.Spans.{Spans}
 use Rattle.tables.specs.Places.{Place, Inside, record_count, line_first, place_of}
-use Rattle.tables.specs.Named.{Spans, whole_if, named_spans, among, named, named_at}
+use Rattle.tables.specs.Named.{whole_if, named_spans, among, named, named_at}
 use Rattle.tables.specs.Meaning.{Names}
 use Rattle.tables.specs.Meaning.Names.{loads, own_span, beside, own_line, first_span, last_span}
 use Rattle.tables.proofs.Naming.{at_loads, at_own_span, at_span_across, at_own_line, at_line_across, by_naming, by_spans}

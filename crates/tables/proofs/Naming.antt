@@ -12,7 +12,8 @@ use Rattle.numbers.proofs.Tests.{by_test, says_eq}
 use Rattle.plan.specs.declared.ways.Way.{Way}
 use Rattle.plan.specs.declared.ways.Way.TheVariants.{X, Y}
 use Rattle.plan.specs.Ways.{across, span_kind, line_kind}
-use Rattle.tables.specs.Named.{Spans, all_spans, only_span, no_span, whole_if, end_span, named_spans}
+use Rattle.tables.specs.declared.named.Spans.{Spans}
+use Rattle.tables.specs.Named.{all_spans, only_span, no_span, whole_if, end_span, named_spans}
 
 module _ (kind index l n : ℕ) where
   pub at_loads : (d : Way) → kind ≡ 3 → named_spans kind index d l n ≡ all_spans n

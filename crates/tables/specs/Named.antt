@@ -4,15 +4,8 @@ use Rattle.std.specs.Prelude.{ℕ, ◌+◌, ◌-◌, Bool, cond, ◌&&◌, ◌||
 use Rattle.plan.specs.declared.ways.Way.{Way}
 use Rattle.plan.specs.Ways.{across, span_kind, line_kind}
 use Rattle.plan.specs.Plan.{bays}
+use Rattle.tables.specs.declared.named.Spans.{Spans}
 use Rattle.tables.specs.Places.{Place, place_of}
-
--- of a line, the spans from `from` on, below `to`
-pub record Spans : Type 0 where
-  pub from : ℕ
-  pub to : ℕ
-
-abbrev pub from_to : ℕ → ℕ → Spans
-from_to from to = record { from = from; to = to }
 
 -- of a line of n spans: all, one, none
 abbrev pub all_spans : ℕ → Spans

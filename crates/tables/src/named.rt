@@ -1,11 +1,17 @@
 // The records that a change names (01, "What a change may write"): of each line, spans that follow one another.
 ghost use Rattle.std.specs.Prelude.{◌≡◌, ◌≤◌};
-ghost use Rattle.tables.specs.Named.{from_to, whole_if, end_span, named_spans};
+ghost use Rattle.tables.specs.Named.{whole_if, end_span, named_spans};
 ghost use Rattle.tables.specs.Asked.{Naming};
 
 use plan::ways::{Way, across, line_kind, span_kind};
 use records::kinds::LOADS;
-use std::ops::Range;
+
+// Spans from `from` on, below `to`. Not the library's range, which is not `Copy`.
+#[derive(Clone, Copy)]
+pub struct Spans {
+    pub from: u32,
+    pub to: u32,
+}
 
 // A record of the floor, as a change names it. The kind is a number, not an enum: C's format and the clauses speak of any number.
 #[derive(Clone, Copy)]
@@ -20,38 +26,45 @@ pub const EVERYTHING: Named = Named {
     index: 0,
 };
 
-fn whole_if(test: bool, n: u32) -> Range<u32>
-    ensures { from_to result.start result.end ≡ whole_if test n }
+fn whole_if(test: bool, n: u32) -> Spans
+    ensures { result ≡ whole_if test n }
 {
-    if test { 0..n } else { 0..0 }
+    if test {
+        Spans { from: 0, to: n }
+    } else {
+        Spans { from: 0, to: 0 }
+    }
 }
 
 // Of a frame of n spans, the one that ends at line j across it, where j is an outer line.
-fn end_span(n: u32, j: u32) -> Range<u32>
+fn end_span(n: u32, j: u32) -> Spans
     requires { 1 ≤ n }
-    ensures { from_to result.start result.end ≡ end_span n j }
+    ensures { result ≡ end_span n j }
 {
     if j == 0 {
-        return 0..1;
+        return Spans { from: 0, to: 1 };
     }
     if j == n {
-        return n - 1..n;
+        return Spans { from: n - 1, to: n };
     }
-    0..0
+    Spans { from: 0, to: 0 }
 }
 
 // Of line l along d, with n spans, those that a change names.
-pub fn named_spans(named: Named, d: Way, l: u32, n: u32) -> Range<u32>
+pub fn named_spans(named: Named, d: Way, l: u32, n: u32) -> Spans
     requires { Naming n named.index }
-    ensures { from_to result.start result.end ≡ named_spans named.kind named.index d l n }
+    ensures { result ≡ named_spans named.kind named.index d l n }
 {
     let Named { kind, index } = named;
     let over = across(d);
     if kind == LOADS {
-        return 0..n;
+        return Spans { from: 0, to: n };
     }
     if kind == span_kind(d) {
-        return index..index + 1;
+        return Spans {
+            from: index,
+            to: index + 1,
+        };
     }
     if kind == span_kind(over) {
         return whole_if(l == index || l == index + 1, n);
@@ -62,5 +75,5 @@ pub fn named_spans(named: Named, d: Way, l: u32, n: u32) -> Range<u32>
     if kind == line_kind(over) {
         return end_span(n, index);
     }
-    0..0
+    Spans { from: 0, to: 0 }
 }

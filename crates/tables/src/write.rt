@@ -8,12 +8,14 @@ ghost use Rattle.tables.specs.Asked.{Room};
 // How many numbers a record has.
 pub const WIDTH: usize = 16;
 
-// The values, one after another, from `at` on.
+// The values, one after another, from `at` on. As `store_at` of crate changes stores bytes: see there.
 pub fn write_at(slice: &mut [u32], at: usize, values: &[u32])
     requires { at + length values.now ≤ length slice.old }
     ensures { slice.new ≡ paste slice.old at values.now (length values.now) }
 {
-    slice[at..at + values.len()].copy_from_slice(values);
+    for n in 0..values.len() {
+        slice[at + n] = values[n];
+    }
 }
 
 // Record k of those that have W numbers each and stand one after another. Room is asked, here and in `blank`, and not kept in a type: the slice is the

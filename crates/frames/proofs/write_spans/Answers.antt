@@ -38,5 +38,5 @@ loop-s-preserved c = let p = c.requires in
     c.write_span.ensures ∙ next_span _ _ _ _ _ _ _ p _ (first_is _ _ _ _ _ _ _ p c.line_first-first.ensures.0) c.loop-s.auto.s c.loop-s.invariant
 
 pub returns : goal.returns
-returns c = let e : c.loop-s.s ≡ c.args.spans.end = omega (arith, c.requires.order) in
+returns c = let e : c.loop-s.s ≡ c.args.spans.to = omega (arith, c.requires.order) in
     c.loop-s.invariant ∙ rw e

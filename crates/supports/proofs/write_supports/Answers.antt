@@ -25,6 +25,6 @@ loop-s-preserved c = c.write_record.ensures ∙ next_support _ _ _ _ _ _ _ c.loo
 -- every support is passed
 pub returns : goal.returns
 returns c =
-    let e : c.loop-s.s ≡ c.args.spans.end + 1 = omega arith in
+    let e : c.loop-s.s ≡ c.args.spans.to + 1 = omega arith in
     c.loop-s.invariant
     ∙ rw e (line_supports c.requires c.line_first-first.ensures.0 c.along-n.ensures c.support_first-start.ensures.0)
