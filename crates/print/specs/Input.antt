@@ -2,6 +2,8 @@
 -- record alone, so that 3,584 bytes and as many more as its length modulo 16 stand for it.
 -- Assumes nothing.
 use Rattle.std.specs.Prelude.{ℕ, ◌+◌, ◌%◌, ◌≤◌, ◌<◌, min, Bool, true, false, cond, List, ◌≡◌, ltb, eqb, Result, Ok, Err, length, take, get_or}
+use Rattle.print.specs.declared.input.Got.{Got}
+use Rattle.print.specs.declared.input.Input.{Input}
 
 -- how many bytes stand for n of them
 unfoldable pub stand_in : ℕ → ℕ
@@ -12,17 +14,6 @@ pub record Stands (f b : List ℕ) (n : ℕ) : Type 0 where
   pub many : n ≡ stand_in (length f)
   pub there : n ≤ length b
   pub same : (k : ℕ) → k < 3584 → k < length f → get_or b k 0 ≡ get_or f k 0
-
--- what a read answered: how many bytes, 0 at the end of the input and where the read failed
-pub record Got : Type 0 where
-  pub bytes : ℕ
-  pub failed : Bool
-
--- what was read: how many of the first bytes stand for it, whether it is all of the input, and whether a read failed
-pub record Input : Type 0 where
-  pub bytes : ℕ
-  pub ended : Bool
-  pub failed : Bool
 
 -- a read that answers an error failed
 abbrev pub is_failed : {E : Type 0} → Result ℕ E → Bool

@@ -100,9 +100,11 @@ fn print<R: Read, W: Write>(input: &mut R, to: &mut W) -> Result<(), Failure>
     ensures { OnOk result (IfSome (R.remaining input.old) (λ f. Appends (W.contents to.old) (W.contents to.new) (sheet_text f blank))) }
 {
     let mut bytes = [0u8; 65536];
-    let Ok(n) = read_floor(input, &mut bytes) else {
+    let input = read_floor(input, &mut bytes);
+    if input.failed {
         return Err(Failure::NotRead);
-    };
+    }
+    let n = input.bytes;
     show(to, &bytes[..n])
 }
 
