@@ -2,8 +2,10 @@
 --     allowed, reach      over the bar: its widest spacing is allowed where it is not below 80, and no allowed spacing is wider
 --     choice_is           so the first of the three that keeps 80 is the smallest that allows a spacing, at its largest
 --     choice_one          no second choice
+--     some_chosen, none_chosen    what an option of bars tells of the choice
 -- Assumes nothing.
 use Prim.Native.Nat.{ℕ, ◌*◌, ◌/◌, ◌≤◌, ◌<◌, min}
+use mathlib.Core.Bool.{Bool, true, false, cond}
 use mathlib.Core.Path.{◌≡◌, refl, sym, ◌∙◌}
 use native.Mathlib.Decide.{dec_le, ℕ_discrete}
 use native.Mathlib.Nat.{le_trans, le_antisymm, mul_comm, mul-le-mul_left, mul-le-mul_right, le-div_iff_mul-le, div-mul-le_self}
@@ -11,7 +13,10 @@ use native.Mathlib.Omega.{arith}
 use lib.Dec.{lit<}
 use borrow.Author.Tests.{le-leb, lt-leb}
 use Rattle.bars.specs.declared.choice.Bars.{Bars}
-use Rattle.bars.specs.Choice.{widest, bars_for}
+use Rattle.std.specs.Prelude.{Option, Some, None}
+use lib.Dec.{eqb}
+use borrow.Author.Rules.{rules}
+use Rattle.bars.specs.Choice.{bars, widest, bars_for, if_any}
 use Rattle.bars.specs.Meaning.{Largest, Allows, Bar, Chosen, NoBar, Choice}
 use Rattle.bars.specs.Meaning.Bar.{ten, twelve, sixteen}
 
@@ -149,3 +154,24 @@ module _ {width area t : ℕ} where
             λ i. record { diameter = e i; spacing = s i }
         | no n ↦ chosen_one (p.chosen n) (q.chosen (λ y. n (p.none.1 (q.none.0 y))))
       ]
+
+-- ---- as an option
+
+pub some_chosen : (c : Bars) {o : Option Bars} {b : Bars} → o ≡ if_any c → o ≡ Some b → b ≡ c
+some_chosen c e h = by (eqb c.diameter 0) (sym h ∙ e)
+  where
+    by : (t : Bool) {b : Bars} → Some b ≡ cond t None (Some c) → b ≡ c
+    by true z = absurd (search rules)
+    by false z = search rules
+
+-- where there are none both numbers are 0
+pub none_chosen : (width area t : ℕ) {o : Option Bars} → o ≡ if_any (bars_for width area t) → o ≡ None → bars 0 0 ≡ bars_for width area t
+unfolding bars_for
+none_chosen width area t e h = by _ _ _ _ _ _ (sym h ∙ e)
+  where
+    by : (x y z : Bool) (p q r : ℕ) → let c : Bars = cond x (bars 10 p) (cond y (bars 12 q) (cond z (bars 16 r) (bars 0 0))) in
+        None ≡ if_any c → bars 0 0 ≡ c
+    by true y z p q r k = absurd (search rules)
+    by false true z p q r k = absurd (search rules)
+    by false false true p q r k = absurd (search rules)
+    by false false false p q r k = refl

@@ -78,10 +78,6 @@ reinforcement_of query =
     cond (eqb query.b 0) nothing
     (cond (eqb (steel_of query).refusal 0) (laid (steel_of query).value (bars_for query.b (steel_of query).value query.t)) nothing)
 
--- that steel where it has bars
-abbrev pub if_reinforced : Reinforcement → Option Reinforcement
-if_reinforced r = cond (eqb r.diameter 0) None (Some r)
-
 -- ---- the record
 
 unfoldable pub entry_of : Span → Materials → ℕ → ℕ → Entry

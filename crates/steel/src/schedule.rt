@@ -13,7 +13,7 @@ ghost use Rattle.steel.specs.Asked.{Framed, Laying, LayingAll, Roomy, HasMoments
 ghost use Rattle.steel.specs.Strips.{span_numbers, materials_of, span_barred, strip_bytes};
 ghost use Rattle.steel.specs.Schedule.{all_barred, scheduled, Scheduled};
 
-use crate::strip::{Materials, entry, moment_number};
+use crate::strip::{Materials, barred_entry, moment_number};
 use answers::Refusal;
 use bars::entry::write_entry;
 use floor::refusal::accept;
@@ -41,7 +41,7 @@ fn span_barred(s: Span, m: Materials, k: u32) -> bool
     // Copied once for its strips.
     let numbers = s.numbers;
     for q in 0..STRIPS {
-        if entry(s, m, k, q, numbers[moment_number(q)]).is_none() {
+        if barred_entry(s, m, k, q, numbers[moment_number(q)]).is_none() {
             return false;
         }
     }
@@ -55,7 +55,7 @@ fn write_span(schedule: &mut [u8], s: Span, m: Materials, k: u32)
 {
     let numbers = s.numbers;
     for q in 0..STRIPS {
-        if let Some(e) = entry(s, m, k, q, numbers[moment_number(q)]) {
+        if let Some(e) = barred_entry(s, m, k, q, numbers[moment_number(q)]) {
             write_entry(schedule, (k * STRIPS + q) as usize, e);
         }
     }

@@ -1,7 +1,7 @@
 // A strip of a section of a span: its width, its moment, and the bars that carry it.
 ghost use Rattle.std.specs.Prelude.{◌≡◌, ◌≤◌, ◌<◌};
 ghost use Rattle.steel.specs.Asked.{InSpan};
-ghost use Rattle.steel.specs.Strips.{moment_number, strip_width, schedule_depth, reinforcement_of, if_reinforced, entry_of, if_barred};
+ghost use Rattle.steel.specs.Strips.{moment_number, strip_width, schedule_depth, reinforcement_of, entry_of, if_barred};
 
 use crate::query::Query;
 use bars::choice::bars_for;
@@ -19,7 +19,7 @@ pub struct Materials {
     pub fy: u64,
 }
 
-// The area asked, and the bars.
+// The area asked, and the bars; the diameter is 0 where there are none.
 // Not an area beside `Bars`: `laid` and `entry_of` of specs/ name the three fields, and C's record has them one by one.
 #[derive(Clone, Copy)]
 pub struct Reinforcement {
@@ -65,28 +65,39 @@ fn schedule_depth(way: Way, t: u64) -> u64
     }
 }
 
+// No bars, and no area.
+const NOTHING: Reinforcement = Reinforcement {
+    area: 0,
+    diameter: 0,
+    spacing: 0,
+};
+
 // The least area and the smallest bars. A width of 0 is no query.
-fn reinforce(query: Query) -> Option<Reinforcement>
-    ensures { result ≡ if_reinforced (reinforcement_of query) }
+fn reinforce(query: Query) -> Reinforcement
+    ensures { result ≡ reinforcement_of query }
 {
     let width = query.b;
     if width == 0 {
-        return None;
+        return NOTHING;
     }
-    let area = crate::steel(query).ok()?;
-    let bars = bars_for(width, area as u64, query.t)?;
-    Some(Reinforcement {
-        area,
-        diameter: bars.diameter,
-        spacing: bars.spacing,
-    })
+    let Ok(area) = crate::steel(query) else {
+        return NOTHING;
+    };
+    match bars_for(width, area as u64, query.t) {
+        Some(bars) => Reinforcement {
+            area,
+            diameter: bars.diameter,
+            spacing: bars.spacing,
+        },
+        None => Reinforcement { area, ..NOTHING },
+    }
 }
 
-// The record of the schedule for strip q of span s, which is record k of the table.
+// The record of the schedule for strip q of span s, which is record k of the table. It is promised of a strip without bars too, whose diameter is 0.
 // Field by field and no From: they are of the span, of the strip, of its moment and of what is laid.
-pub fn entry(s: Span, m: Materials, k: u32, q: u32, moment: u32) -> Option<Entry>
+pub fn entry(s: Span, m: Materials, k: u32, q: u32, moment: u32) -> Entry
     requires { InSpan s q moment }
-    ensures { result ≡ if_barred (entry_of s m k q) }
+    ensures { result ≡ entry_of s m k q }
 {
     let width = strip_width(s, q);
     let laid = reinforce(Query {
@@ -96,8 +107,8 @@ pub fn entry(s: Span, m: Materials, k: u32, q: u32, moment: u32) -> Option<Entry
         d: schedule_depth(s.way, m.t),
         fc: m.fc,
         fy: m.fy,
-    })?;
-    Some(Entry {
+    });
+    Entry {
         record: k,
         section: q / 2,
         strip: q % 2,
@@ -106,5 +117,14 @@ pub fn entry(s: Span, m: Materials, k: u32, q: u32, moment: u32) -> Option<Entry
         area: laid.area,
         diameter: laid.diameter,
         spacing: laid.spacing,
-    })
+    }
+}
+
+// That record where the strip has bars.
+pub fn barred_entry(s: Span, m: Materials, k: u32, q: u32, moment: u32) -> Option<Entry>
+    requires { InSpan s q moment }
+    ensures { result ≡ if_barred (entry_of s m k q) }
+{
+    let e = entry(s, m, k, q, moment);
+    if e.diameter == 0 { None } else { Some(e) }
 }

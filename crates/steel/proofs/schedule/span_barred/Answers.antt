@@ -10,13 +10,13 @@ use Rattle.steel.proofs.schedule.span_barred.Goals as goal
 pub loop-q-init : goal.loop-q-init
 loop-q-init c = none false _
 
-pub entry-requires : goal.entry-requires
+pub barred_entry-requires : goal.barred_entry-requires
 unfolding strip_moment
-entry-requires c = let r = c.requires in
+barred_entry-requires c = let r = c.requires in
     record { strip = r.strip; width = r.width; six = c.loop-q-test.true; moment_is = rw c.moment_number.ensures.0 }
 
 pub returns-then-is_none : goal.returns-then-is_none
-returns-then-is_none c = sym (found false _ _ _ c.loop-q-test.true (sym (told _ c.entry.ensures) ∙ c.if-is_none.ensures))
+returns-then-is_none c = sym (found false _ _ _ c.loop-q-test.true (sym (told _ c.barred_entry.ensures) ∙ c.if-is_none.ensures))
 
 pub loop-q-preserved : goal.loop-q-preserved
-loop-q-preserved c = more false _ _ c.loop-q.invariant (sym (told _ c.entry.ensures) ∙ c.if-is_none.ensures)
+loop-q-preserved c = more false _ _ c.loop-q.invariant (sym (told _ c.barred_entry.ensures) ∙ c.if-is_none.ensures)
