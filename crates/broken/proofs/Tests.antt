@@ -2,7 +2,7 @@
 --     bays_some, few_at             the bays of an accepted floor, and limit 1
 --     extent_is, extent_most        the extent of a limit's places, as it is worked out
 --     at_place, in_row              a place of a row, and a row
---     place_as, panel_asks          its statement, once its limit is known, and what the test of a panel asks
+--     place_as, .._asks             its statement, once its limit is known, and what that limit's test asks
 -- Assumes nothing.
 use Prim.Native.Nat.{ℕ, ◌+◌, ◌*◌, ◌<◌, ◌≤◌}
 use mathlib.Core.Bool.{Bool}
@@ -17,7 +17,7 @@ use Rattle.plan.specs.Plan.{bays, bays_of}
 use Rattle.floor.proofs.Fair.{fair}
 use Rattle.lines.specs.declared.survey.Floor.{Floor}
 use Rattle.lines.specs.declared.survey.Lines.{Lines}
-use Rattle.lines.specs.Asked.{StiffPanel}
+use Rattle.lines.specs.Asked.{InPanel, StiffPanel}
 use Rattle.lines.proofs.Slabs.{sized_of, bays_of_lem}
 use Rattle.lines.proofs.Filled.{stiff_at}
 use Rattle.limits.specs.declared.Limit.{Limit}
@@ -26,6 +26,7 @@ use Rattle.limits.specs.Limits.{too_few}
 use Rattle.limits.specs.Places.{extent}
 use Rattle.limits.specs.Meaning.{PanelAt, PlaceOf}
 use Rattle.limits.proofs.Places.{in_place}
+use Rattle.places.specs.Asked.{HasNext, HasColumn}
 use Rattle.broken.specs.Asked.{SomeBays, AtPlace, InRow, Along}
 
 module _ (o : Floor) where
@@ -84,3 +85,14 @@ place_as {f} {d = d} {i} {j} p e = subst (λ m. PlaceOf f m d i j) e p.place
 -- what a test of a panel asks
 pub panel_asks : (v : Lines) (d : Way) {i j : ℕ} → PanelAt v.survey.floor.bytes.now d i j → StiffPanel v.survey.floor.bytes.now v.alphas i j
 panel_asks v d h = stiff_at v.stiff h.1 h.2
+
+-- and what the tests of the others ask: a panel, a span with one after it, a column
+module _ {f : List ℕ} {l : Limit} {d : Way} {i j : ℕ} (p : AtPlace f l d i j) where
+  pub slender_asks : l ≡ Slender → InPanel f i j
+  slender_asks e = let h = place_as p e in record { x_bay = h.1; y_bay = h.2 }
+
+  pub uneven_asks : l ≡ Uneven → {k : ℕ} → k ≡ pick d i j → HasNext f d k
+  uneven_asks e q = record { next = rw q (place_as p e).0 }
+
+  pub astray_asks : l ≡ Astray → HasColumn f i j
+  astray_asks e = let h = place_as p e in record { y_line = h.0; x_line = h.1 }
