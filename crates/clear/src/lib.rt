@@ -50,7 +50,7 @@ fn panels_broken(survey: &Survey, near: &[[u64; 13]; 2]) -> bool
     requires { NearAlphas survey.now.floor.bytes.now near.now }
     ensures { result ≡ panels_broken survey.now.floor.bytes.now }
 {
-    let lines = Lines::on_from(*survey, near);
+    let lines = Lines::on_from(survey, near);
     unbalanced(&lines) || thin(&lines)
 }
 

@@ -174,12 +174,16 @@ impl<'a> Lines<'a> {
     }
 
     // Where α of the four lines around the first panel is at hand.
-    pub fn on_from(survey: Survey<'a>, near: &[[u64; 13]; 2]) -> Lines<'a>
-        requires { NearAlphas survey.floor.bytes.now near.now }
-        ensures { result.survey ≡ survey.entry }
+    // The survey is lent: its caller has one by reference, and a copy of it on the way would only take stack.
+    pub fn on_from(survey: &Survey<'a>, near: &[[u64; 13]; 2]) -> Lines<'a>
+        requires { NearAlphas survey.now.floor.bytes.now near.now }
+        ensures { result.survey ≡ survey.now }
     {
         let alphas = survey.remaining_alphas(near);
-        Lines { survey, alphas }
+        Lines {
+            survey: *survey,
+            alphas,
+        }
     }
 
     // α of every line along d.
