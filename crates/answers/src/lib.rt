@@ -48,7 +48,7 @@ pub fn success(value: u32) -> Answer
     Answer { refusal: 0, value }
 }
 
-// A refused opening or change, whose verdict is one that no floor earns. Of any number, here and below, as docs/DECISIONS.md names both.
+// A refused opening or change, whose verdict is one that no floor earns. It takes any number, as the next one does: docs/DECISIONS.md names both.
 pub fn refused(number: u32) -> Answer
     ensures { result ≡ answer number 255 }
 {

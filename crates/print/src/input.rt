@@ -69,7 +69,7 @@ fn after(n: usize, got: Got) -> Input
     let more = got.bytes;
     let bytes = stand_in(n + more);
     Input {
-        bytes: bytes,
+        bytes,
         ended: more == 0,
         failed: got.failed,
     }
