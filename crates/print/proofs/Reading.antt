@@ -1,15 +1,17 @@
 -- What stands for all that a reader gave so far.
 -- Assumes nothing.
-use Prim.Native.Nat.{ℕ, ◌+◌}
+use Prim.Native.Nat.{ℕ, ◌+◌, ◌≤◌, min}
+use mathlib.Core.Bool.{false}
+use native.Mathlib.Omega.{arith}
 use mathlib.Core.List.{List, [], ◌++◌, append-nil}
 use mathlib.Core.Path.{◌≡◌, sym, ap, subst, ◌∙◌}
 use lib.ListN.{take, drop}
 use Rattle.std.specs.declared.option.Option.{Option}
-use Rattle.std.specs.Prelude.{None, Some, IfSome, Result, Ok, Err, OnOk}
+use Rattle.std.specs.Prelude.{None, Some, IfSome, Result, Ok, Err, OnOk, eqb}
 use Rattle.std.specs.Io.KnownBytes.{Appends, Consumes, IsAtEnd}
 use Rattle.std.proofs.KnownBytes.{Consumes-nil, Consumes-trans}
 use Rattle.sheets.proofs.Growing.{grew_as}
-use Rattle.print.specs.Input.{stand_in, Stands, ReadOn}
+use Rattle.print.specs.Input.{stand_in, got_of, after_read, Stands, ReadOn}
 use Rattle.print.specs.Sheet.{sheet_text, blank}
 use Rattle.print.proofs.Kept.{stands_none, stands_more, same_sheet}
 
@@ -30,6 +32,11 @@ one_more a left left' b b' n m n' e s read gave = record {
   gave = Consumes-trans a left left' s.given (take m (drop n b')) s.gave gave;
   stand = subst (Stands (s.given ++ take m (drop n b')) b') (sym e) (stands_more s.stand read);
 }
+
+-- what is known after a read that went well and gave m bytes, of `most` that it was handed: the end is where it gave none
+pub went_well : (E : Type 0) (n m most : ℕ) → m ≤ most
+    → after_read n (got_of {E = E} (Ok m) most) ≡ record { bytes = stand_in (n + m); ended = eqb m 0; failed = false }
+went_well E n m most h = let e : min m most ≡ m = omega arith in rw e
 
 -- of a reader that is at its end, all that it had
 pub all_of : (a left : Option (List ℕ)) (b : List ℕ) (n : ℕ) → SoFar a left b n → IsAtEnd left → IfSome a (λ f. Stands f b n)
